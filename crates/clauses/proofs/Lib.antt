@@ -1,0 +1,8 @@
+pub mod Families
+pub mod Filling
+pub mod Members
+pub mod ModelsAreCompletions
+pub mod Numbers
+pub mod PairNumber
+pub mod Proper
+pub mod Signed

@@ -1,0 +1,90 @@
+-- What is in a clause set: the clauses of well-formed shapes. What is in a grid's givens: a literal for each cell whose byte is a digit.
+-- Both follow from membership in a list by place, and in a list made of one for each number of a range.
+-- Assumes nothing.
+use mathlib.Core.Path.{_≡_, refl, sym, subst, _∙_}
+use mathlib.Core.Logic.{_↔_, ⊎-elim}
+use mathlib.Core.Bool.{Bool, true, false}
+use mathlib.Core.List.{List, [], _∷_, List·Memᴰ, List·Memᴰ·head, List·Memᴰ·tail, List·Memᴰ·not-nil}
+use mathlib.Core.List.{List·Memᴰ·append-cases, List·Memᴰ·eq-of-singleton, Memᴰ·append-left, Memᴰ·append-right}
+use Prim.Native.Nat.{ℕ, zero, suc, _+_, _*_, _-_, _≤_, _<_}
+use native.Mathlib.Decide.{ℕ-discrete}
+use native.Mathlib.Omega.{arith}
+use lib.Dec.{T}
+use lib.IntN.{ℤ, pos}
+use lib.ListN.{length, getD}
+use borrow.Author.Tests.{le-leb}
+use Rattle.grid.specs.Grid.{byte, isDigit, digitOf}
+use Rattle.grid.proofs.Completion.{digit-iff}
+use Rattle.clauses.specs.Clauses.{Clause, range, over, clausesOf}
+use Rattle.clauses.specs.Models.{Truth, holds, givenAt, givens}
+use Rattle.clauses.specs.Shape.{IsShape, clauseOf, shapeOf}
+use Rattle.clauses.specs.declared.ClauseSet.{ClauseSet}
+use Rattle.clauses.specs.declared.Shape.{Shape}
+use Rattle.clauses.proofs.Numbers.{sizeOf, sizes, set-long, clause-at, shape-is}
+
+module _ {A : Type 0} (d : A) where
+  -- a member stands at some place,
+  pub place-of : (xs : List A) {x : A} → List·Memᴰ x xs → (n : ℕ) × (n < length xs) × (getD xs n d ≡ x)
+  place-of xs (List·Memᴰ·head e) = (0, omega arith, sym e)
+  place-of xs (List·Memᴰ·tail {xs = ys} m) = let w = place-of ys m in (suc (w .0), omega (arith, w .1), w .2)
+
+  -- and what stands at a place is a member
+  pub member-at : (xs : List A) (n : ℕ) → n < length xs → List·Memᴰ (getD xs n d) xs
+  member-at [] n h = absurd (omega arith)
+  member-at (x ∷ xs) zero h = List·Memᴰ·head refl
+  member-at (x ∷ xs) (suc n) h = List·Memᴰ·tail (member-at xs n (omega arith))
+
+-- the members of a list made of one for each number of a range are those of the numbers' lists
+pub over-iff : {B : Type 0} (a n : ℕ) (f : ℕ → List B) (y : B)
+    → List·Memᴰ y (over (range a n) f) ↔ ((k : ℕ) × (a ≤ k) × (k < a + n) × List·Memᴰ y (f k))
+over-iff a zero f y = ((λ m. absurd (List·Memᴰ·not-nil m)), λ w. absurd (omega arith))
+over-iff a (suc n) f y = let r = over-iff (suc a) n f y in (
+  (λ m. ⊎-elim
+      (λ t. (a, omega arith, omega arith, t))
+      (λ t. let w = r .0 t in (w .0, omega (arith, w .1), omega (arith, w .2), w .3)) (List·Memᴰ·append-cases (f a) m)),
+  λ w. elim (ℕ-discrete (w .0) a) [
+    | yes e ↦ Memᴰ·append-left (over (range (suc a) n) f) (rw e at (w .3))
+    | no e ↦ Memᴰ·append-right (f a) (r .1 (w .0, omega arith, omega arith, w .3))
+  ],
+)
+
+module _ (s : ClauseSet) where
+  -- the clause of a number of set 1 is in either set
+  pub numbered-member : (n : ℕ) → n < 8829 → List·Memᴰ (clauseOf (shapeOf n)) (clausesOf s)
+  numbered-member n h =
+      subst (λ c. List·Memᴰ c (clausesOf s)) (clause-at s n (omega (arith, sizes s)))
+      (member-at [] (clausesOf s) n (omega (arith, set-long s, sizes s)))
+
+  -- each clause of a set is that of a well-formed shape
+  pub member-shape : (c : Clause) → List·Memᴰ c (clausesOf s) → (h : Shape) × IsShape h × (clauseOf h ≡ c)
+  member-shape c m =
+      let w = place-of [] (clausesOf s) m in
+      let b : w .0 < sizeOf s = omega (arith, w .1, set-long s) in
+      (shapeOf (w .0), shape-is (w .0) (omega (arith, sizes s)), sym (clause-at s (w .0) b) ∙ w .2)
+
+given-iff : (x c : ℕ) (l : ℤ) → List·Memᴰ l (givenAt (isDigit x) c (digitOf x)) ↔ (T (isDigit x) × (l ≡ pos (9 * c + digitOf x)))
+given-iff x c l = go (isDigit x)
+  where
+    go : (b : Bool) → List·Memᴰ l (givenAt b c (digitOf x)) ↔ (T b × (l ≡ pos (9 * c + digitOf x)))
+    go true = ((λ m. (tt, List·Memᴰ·eq-of-singleton m)), λ h. List·Memᴰ·head (h .1))
+    go false = ((λ m. absurd (List·Memᴰ·not-nil m)), λ h. absurd (h .0))
+
+-- the givens are the literals of the cells that have a digit
+pub givens-iff : (g : List ℕ) (l : ℤ) → List·Memᴰ l (givens g) ↔ ((c : ℕ) × (c < 81) × T (isDigit (byte g c)) × (l ≡ pos (9 * c + digitOf (byte g c))))
+unfolding givens
+givens-iff g l = let o = over-iff 0 81 (λ c. givenAt (isDigit (byte g c)) c (digitOf (byte g c))) l in (
+  (λ m. let w = o .0 m in let v = given-iff (byte g (w .0)) (w .0) l .0 (w .3) in (w .0, w .2, v .0, v .1)),
+  λ w. o .1 (w .0, omega arith, w .1, given-iff (byte g (w .0)) (w .0) l .1 (w .2, w .3)),
+)
+
+given-variable : (c x : ℕ) → T (isDigit x) → 9 * c + digitOf x ≡ suc (9 * c + (x - 49))
+unfolding digitOf isDigit
+given-variable c x t = let h = digit-iff x .0 t in rw (le-leb 49 x (h .0), le-leb x 57 (h .1)) (omega arith)
+
+-- the givens are true where each cell that has a digit has the variable of it true
+pub givens-true-iff : (A : Truth) (g : List ℕ)
+    → ((l : ℤ) → List·Memᴰ l (givens g) → T (holds A l)) ↔ ((c : ℕ) → c < 81 → T (isDigit (byte g c)) → T (A (suc (9 * c + (byte g c - 49)))))
+givens-true-iff A g = (
+  (λ k c h t. rw (given-variable c (byte g c) t) at (k (pos (9 * c + digitOf (byte g c))) (givens-iff g _ .1 (c, h, t, refl)))),
+  λ f l m. let w = givens-iff g l .0 m in rw (w .3, given-variable (w .0) (byte g (w .0)) (w .2)) (f (w .0) (w .1) (w .2)),
+)

@@ -1,0 +1,5 @@
+pub mod Literal
+pub mod Clauses
+pub mod Call
+pub mod Models
+pub mod Shape

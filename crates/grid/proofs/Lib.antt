@@ -1,0 +1,6 @@
+pub mod First
+pub mod Table
+pub mod Counting
+pub mod House
+pub mod Completion
+mod Examples

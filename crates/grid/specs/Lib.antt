@@ -1,0 +1,5 @@
+pub mod Counting
+pub mod Grid
+pub mod House
+pub mod Completion
+pub mod Refusals

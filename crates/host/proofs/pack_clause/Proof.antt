@@ -1,0 +1,35 @@
+-- A case for each answer.
+use mathlib.Core.Path.{ap, sym, _∙_}
+use Rattle.host.specs.Packed.{packedClause}
+use borrow.Author.Needs.{needs}
+use Rattle.host.proofs.pack_clause.Statement.{statement}
+use Rattle.host.proofs.pack_clause.Tie as tie
+
+enum-known-a : tie.Need-enum-known-a
+enum-known-a c = search needs
+
+pack-result-requires : tie.Need-pack-result-requires
+pack-result-requires c κs = search needs
+
+enum-known-a-2 : tie.Need-enum-known-a-2
+enum-known-a-2 c = search needs
+
+pack-refusal-requires : tie.Need-pack-refusal-requires
+pack-refusal-requires c κs = search needs
+
+returns : tie.Need-returns
+returns c = c .pack-result .ensures ∙ ap packedClause (sym (c .before .before .a .given .1))
+
+returns-2 : tie.Need-returns-2
+returns-2 c = c .pack-refusal .ensures ∙ ap packedClause (sym (c .before .before .a2 .given .1))
+
+pub pack-clause-spec : {M : Type 1} → statement M
+pack-clause-spec =
+    tie.close
+    (tie.spec
+    enum-known-a
+    pack-result-requires
+    enum-known-a-2
+    pack-refusal-requires
+    returns
+    returns-2)

@@ -1,0 +1,60 @@
+// The calls as C functions, for hosts to link. A slice passes as a pointer and a length.
+//
+//     grader_check_grid    the keyer's check of a grid
+//     grader_clause        the clause call
+use clauses::ClauseAnswer;
+use grid::Checked;
+use grid::Refusal;
+ghost use mathlib.Core.Path.{_≡_};
+ghost use Rattle.grid.specs.Refusals.{gridCheck};
+ghost use Rattle.clauses.specs.Call.{clauseCall};
+ghost use Rattle.host.specs.Packed.{packedRefusal, packedResult, packedCheck, packedClause, packedGiven};
+
+const RESULT: u64 = 281474976710656;
+
+const NUMBER: u64 = 72057594037927936;
+
+fn pack_refusal(r: Refusal) -> u64
+    ensures { λ p. ⌜ p ≡ packedRefusal r ⌝ }
+{
+    (r.number % 256) as u64 * NUMBER + (r.place as u64) % RESULT
+}
+
+fn pack_result(n: usize) -> u64
+    ensures { λ p. ⌜ p ≡ packedResult n ⌝ }
+{
+    (n % 256) as u64 * RESULT
+}
+
+fn pack_check(c: Checked) -> u64
+    ensures { λ p. ⌜ p ≡ packedCheck c ⌝ }
+{
+    match c {
+        Checked::Accepted => 0,
+        Checked::Refused(r) => pack_refusal(r),
+    }
+}
+
+fn pack_clause(a: ClauseAnswer) -> u64
+    ensures { λ p. ⌜ p ≡ packedClause a ⌝ }
+{
+    match a {
+        ClauseAnswer::Length(n) => pack_result(n),
+        ClauseAnswer::Refused(r) => pack_refusal(r),
+    }
+}
+
+#[no_mangle]
+pub extern "C" fn grader_check_grid(grid: &[u8]) -> u64
+    ensures { λ p. ⌜ p ≡ packedCheck (gridCheck (now (grid .entry))) ⌝ }
+{
+    pack_check(grid::check_grid(grid))
+}
+
+#[no_mangle]
+pub extern "C" fn grader_clause(set: u32, number: u32, literals: &mut [i16]) -> u64
+    ensures { λ p. ⌜ (p, now (literals .exit)) ≡ packedGiven (clauseCall set number (now (literals .entry))) ⌝ }
+{
+    let answer = clauses::clause(set, number, literals);
+    pack_clause(answer)
+}

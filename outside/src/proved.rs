@@ -1,0 +1,43 @@
+//! The proved library's C functions behind safe calls. A slice passes as its pointer and its length
+//! in elements; the functions read and write nothing outside the slices that they are lent.
+
+use crate::packed::unpack;
+use crate::refusal::Refusal;
+
+#[link(name = "host", kind = "static")]
+extern "C" {
+    fn grader_check_grid(grid: *const u8, length: usize) -> u64;
+    fn grader_clause(set: u32, number: u32, literals: *mut i16, length: usize) -> u64;
+    fn grader_is_completion(
+        grid: *const u8,
+        grid_length: usize,
+        candidate: *const u8,
+        candidate_length: usize,
+    ) -> u8;
+}
+
+pub fn check_grid(grid: &[u8]) -> Result<u8, Refusal> {
+    unpack(unsafe { grader_check_grid(grid.as_ptr(), grid.len()) })
+}
+
+pub fn clause(set: u32, number: u32, literals: &mut [i16]) -> Result<u8, Refusal> {
+    unpack(packed_clause(set, number, literals))
+}
+
+/// The clause call with the answer as the C function gives it.
+#[inline]
+pub fn packed_clause(set: u32, number: u32, literals: &mut [i16]) -> u64 {
+    unsafe { grader_clause(set, number, literals.as_mut_ptr(), literals.len()) }
+}
+
+/// The byte as the C function gives it, 1 for a legal completion and 0 for anything else.
+pub fn is_completion(grid: &[u8], candidate: &[u8]) -> u8 {
+    unsafe {
+        grader_is_completion(
+            grid.as_ptr(),
+            grid.len(),
+            candidate.as_ptr(),
+            candidate.len(),
+        )
+    }
+}
