@@ -3,6 +3,6 @@ pub mod Filling
 pub mod Members
 pub mod ModelsAreCompletions
 pub mod Numbers
-pub mod PairNumber
+pub mod ShapeNumber
 pub mod Proper
 pub mod Signed

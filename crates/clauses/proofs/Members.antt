@@ -1,15 +1,15 @@
--- What is in a clause set: the clauses of well-formed shapes. What is in a grid's givens: a literal for each cell whose byte is a digit.
+-- What is in a clause set: the clauses of the shapes that it has. What is in a grid's givens: a literal for each cell whose byte is a digit.
 -- Both follow from membership in a list by place, and in a list made of one for each number of a range.
 -- Assumes nothing.
-use mathlib.Core.Path.{_≡_, refl, sym, subst, _∙_}
+use mathlib.Core.Path.{_≡_, refl, ap, sym, subst, _∙_}
 use mathlib.Core.Logic.{_↔_, ⊎-elim}
-use mathlib.Core.Bool.{Bool, true, false}
+use mathlib.Core.Bool.{Bool, true, false, cond}
 use mathlib.Core.List.{List, [], _∷_, List·Memᴰ, List·Memᴰ·head, List·Memᴰ·tail, List·Memᴰ·not-nil}
 use mathlib.Core.List.{List·Memᴰ·append-cases, List·Memᴰ·eq-of-singleton, Memᴰ·append-left, Memᴰ·append-right}
-use Prim.Native.Nat.{ℕ, zero, suc, _+_, _*_, _-_, _≤_, _<_}
-use native.Mathlib.Decide.{ℕ-discrete}
+use Prim.Native.Nat.{ℕ, zero, suc, _+_, _*_, _-_, _/_, _%_, _≤_, _<_}
+use native.Mathlib.Decide.{ℕ-discrete, decLt}
 use native.Mathlib.Omega.{arith}
-use lib.Dec.{T}
+use lib.Dec.{T, ltb}
 use lib.IntN.{ℤ, pos}
 use lib.ListN.{length, getD}
 use borrow.Author.Tests.{le-leb}
@@ -17,10 +17,14 @@ use Rattle.grid.specs.Grid.{byte, isDigit, digitOf}
 use Rattle.grid.proofs.Completion.{digit-iff}
 use Rattle.clauses.specs.Clauses.{Clause, range, over, clausesOf}
 use Rattle.clauses.specs.Models.{Truth, holds, givenAt, givens}
-use Rattle.clauses.specs.Shape.{IsShape, clauseOf, shapeOf}
+use Rattle.clauses.specs.Shape.{IsShape, InSet, clauseOf, shapeOf, boxOf, rowsPair}
 use Rattle.clauses.specs.declared.ClauseSet.{ClauseSet}
+use Rattle.clauses.specs.declared.ClauseSet.the-variants.{Minimal, Extended}
 use Rattle.clauses.specs.declared.Shape.{Shape}
+use Rattle.clauses.specs.declared.Shape.the-variants.{NotBoth}
+use Rattle.clauses.proofs.Families.{shape-F1, shape-F2, shape-F3, shape-F4, shape-F5}
 use Rattle.clauses.proofs.Numbers.{sizeOf, sizes, set-long, clause-at, shape-is}
+use Rattle.clauses.proofs.ShapeNumber.{numberOf, shape-number}
 
 module _ {A : Type 0} (d : A) where
   -- a member stands at some place,
@@ -48,19 +52,37 @@ over-iff a (suc n) f y = let r = over-iff (suc a) n f y in (
   ],
 )
 
-module _ (s : ClauseSet) where
-  -- the clause of a number of set 1 is in either set
-  pub numbered-member : (n : ℕ) → n < 8829 → List·Memᴰ (clauseOf (shapeOf n)) (clausesOf s)
-  numbered-member n h =
-      subst (λ c. List·Memᴰ c (clausesOf s)) (clause-at s n (omega (arith, sizes s)))
-      (member-at [] (clausesOf s) n (omega (arith, set-long s, sizes s)))
+box-pair-in : (q t : ℕ) → InSet Minimal (rowsPair (boxOf q) t)
+box-pair-in q t = go (ltb t 18)
+  where
+    go : (b : Bool) → InSet Minimal (cond b (NotBoth (boxOf q) (t / 6) (3 + t % 6)) (NotBoth (boxOf q) (3 + (t - 18) / 3) (6 + t % 3)))
+    go true = tt
+    go false = tt
 
-  -- each clause of a set is that of a well-formed shape
-  pub member-shape : (c : Clause) → List·Memᴰ c (clausesOf s) → (h : Shape) × IsShape h × (clauseOf h ≡ c)
-  member-shape c m =
-      let w = place-of [] (clausesOf s) m in
-      let b : w .0 < sizeOf s = omega (arith, w .1, set-long s) in
-      (shapeOf (w .0), shape-is (w .0) (omega (arith, sizes s)), sym (clause-at s (w .0) b) ∙ w .2)
+-- the shape of a number of a set is one that the set has
+shape-in : (t : ClauseSet) (n : ℕ) → n < sizeOf t → InSet t (shapeOf n)
+shape-in Extended n h = tt
+shape-in Minimal n h = go (decLt n 81) (decLt n 2997) (decLt n 5913) (decLt n 6642)
+  where
+    go : Dec (n < 81) → Dec (n < 2997) → Dec (n < 5913) → Dec (n < 6642) → InSet Minimal (shapeOf n)
+    go (yes a) b c d = rw (shape-F1 n a) tt
+    go (no a) (yes b) c d = rw (shape-F2 n (omega arith) b) tt
+    go (no a) (no b) (yes c) d = rw (shape-F3 n (omega arith) c) tt
+    go (no a) (no b) (no c) (yes d) = rw (shape-F4 n (omega arith) d) tt
+    go (no a) (no b) (no c) (no d) = rw (shape-F5 n (omega arith) h) (box-pair-in ((n - 6642) / 27) ((n - 6642) % 27))
+
+-- the clauses of a set are those of the shapes that it has
+pub member-iff : (t : ClauseSet) (c : Clause) → List·Memᴰ c (clausesOf t) ↔ ((s : Shape) × IsShape s × InSet t s × (clauseOf s ≡ c))
+member-iff t c = (
+  (λ m.
+      let w = place-of [] (clausesOf t) m in
+      let b : w .0 < sizeOf t = omega (arith, w .1, set-long t) in
+      (shapeOf (w .0), shape-is (w .0) (omega (arith, sizes t)), shape-in t (w .0) b, sym (clause-at t (w .0) b) ∙ w .2)),
+  λ w.
+      let v = shape-number t (w .0) (w .1) (w .2) in
+      subst (λ d. List·Memᴰ d (clausesOf t)) (clause-at t (numberOf (w .0)) (v .0) ∙ ap clauseOf (v .1) ∙ w .3)
+      (member-at [] (clausesOf t) (numberOf (w .0)) (omega (arith, v .0, set-long t))),
+)
 
 given-iff : (x c : ℕ) (l : ℤ) → List·Memᴰ l (givenAt (isDigit x) c (digitOf x)) ↔ (T (isDigit x) × (l ≡ pos (9 * c + digitOf x)))
 given-iff x c l = go (isDigit x)

@@ -24,7 +24,7 @@ use Rattle.clauses.specs.Models.{Truth, holds, givens, truthOf, pick, ta
 use Rattle.clauses.specs.Shape.{placeOf}
 use Rattle.clauses.specs.declared.ClauseSet.{ClauseSet}
 use Rattle.clauses.specs.declared.Group.the-variants.{Cell, House}
-use Rattle.clauses.proofs.Members.{member-shape, givens-true-iff}
+use Rattle.clauses.proofs.Members.{member-iff, givens-true-iff}
 use Rattle.clauses.proofs.Proper.{Proper, proper-satisfies, satisfying-proper}
 
 table-at : (a n : ℕ) (f : ℕ → ℕ) (k i : ℕ) → k < n → a + k ≡ i → getD (table a n f) k 0 ≡ f i
@@ -125,7 +125,7 @@ pub models-are-completions : (s : ClauseSet) (g : List ℕ) → Precisely s g
 models-are-completions s g =
     record {
       models = λ b l. record {
-        clauses = λ c m. let w = member-shape s c m in rw (← w .2) (proper-satisfies (truthOf b) (legal-proper l) (w .0) (w .1));
+        clauses = λ c m. let w = member-iff s c .0 m in rw (← w .3) (proper-satisfies (truthOf b) (legal-proper l) (w .0) (w .1));
         keeps = givens-true-iff (truthOf b) g .1 (λ c h t. byte-true b c (byte g c) t (l .keeps c h t));
       };
       completions = λ A m. proper-legal A (satisfying-proper A s (m .clauses)) g (m .keeps);

@@ -16,15 +16,14 @@ use Rattle.grid.proofs.Counting.{tally-some, tally-find, tally-pair, tally-most
 use Rattle.grid.proofs.House.{row-cell, cell-below}
 use Rattle.clauses.specs.Clauses.{Clause, clausesOf}
 use Rattle.clauses.specs.Models.{Truth, Satisfies}
-use Rattle.clauses.specs.Shape.{placeOf, IsGroup, IsShape, clauseOf, shapeOf}
+use Rattle.clauses.specs.Shape.{placeOf, IsGroup, IsShape, InSet, clauseOf}
 use Rattle.clauses.specs.declared.ClauseSet.{ClauseSet}
+use Rattle.clauses.specs.declared.ClauseSet.the-variants.{Minimal, Extended}
 use Rattle.clauses.specs.declared.Group.{Group}
 use Rattle.clauses.specs.declared.Group.the-variants.{Cell, House}
 use Rattle.clauses.specs.declared.Shape.{Shape}
 use Rattle.clauses.specs.declared.Shape.the-variants.{OneOf, NotBoth}
-use Rattle.clauses.proofs.Families.{shape-F1}
-use Rattle.clauses.proofs.PairNumber.{pairNumber, pair-number}
-use Rattle.clauses.proofs.Members.{over-iff, numbered-member}
+use Rattle.clauses.proofs.Members.{over-iff, member-iff}
 
 -- the k-th variable of a group is true
 abbrev pub trueIn : Truth → Group → ℕ → Bool
@@ -33,6 +32,15 @@ trueIn A g k = A (suc (placeOf g k))
 -- each group has one true variable
 abbrev pub Proper : Truth → Type 0
 Proper A = (g : Group) → IsGroup g → tally 9 (trueIn A g) ≡ 1
+
+-- both sets have the cells' clauses and the houses' pairs
+cell-in : (s : ClauseSet) (c : ℕ) → InSet s (OneOf (Cell c))
+cell-in Minimal c = tt
+cell-in Extended c = tt
+
+pair-in : (s : ClauseSet) (h d i j : ℕ) → InSet s (NotBoth (House h d) i j)
+pair-in Minimal h d i j = tt
+pair-in Extended h d i j = tt
 
 either : (a b : Bool) → (T a → T b → ⊥) → T (not a) ⊎ T (not b)
 either true b f = inr (not-T b (f tt))
@@ -74,18 +82,15 @@ module _ (A : Truth) where
   unfolding placeOf
   satisfying-proper s m = proper
     where
-      meets : (n : ℕ) (h : Shape) → n < 8829 → shapeOf n ≡ h → Satisfies A (clauseOf h)
-      meets n h b e = rw e at (m (clauseOf (shapeOf n)) (numbered-member s n b))
+      meets : (h : Shape) → IsShape h → InSet s h → Satisfies A (clauseOf h)
+      meets h w i = m (clauseOf h) (member-iff s (clauseOf h) .1 (h, w, i, refl))
 
       some : (h : ℕ) → h < 27 → (k : ℕ) → k < 9 → 1 ≤ tally 9 (trueIn A (Cell (cellOf h k)))
-      some h b k a =
-          let i = cell-below h k b a in
-          one-of-iff (Cell (cellOf h k)) .0 (meets (cellOf h k) (OneOf (Cell (cellOf h k))) (omega arith) (shape-F1 (cellOf h k) i))
+      some h b k a = let c = cellOf h k in one-of-iff (Cell c) .0 (meets (OneOf (Cell c)) (cell-below h k b a) (cell-in s c))
 
       most : (h : ℕ) → h < 27 → (d : ℕ) → d < 9 → tally 9 (trueIn A (House h d)) ≤ 1
       most h b d a = tally-most (trueIn A (House h d)) 9 (λ i j u v.
-          let w = pair-number h d i j b a u v in
-          not-both-iff (House h d) i j .0 (meets (pairNumber h d i j) (NotBoth (House h d) i j) (w .0) (w .1)))
+          not-both-iff (House h d) i j .0 (meets (NotBoth (House h d) i j) ((b, a), u, v) (pair-in s h d i j)))
 
       proper : Proper A
       proper (House h d) i = square-columns 9 (λ k. trueIn A (Cell (cellOf h k))) (some h (i .0)) (most h (i .0)) d (i .1)

@@ -9,6 +9,8 @@ use lib.IntN.{pos, negsuc}
 use lib.ListN.{getD}
 use Rattle.grid.specs.House.{cellOf}
 use Rattle.clauses.specs.Clauses.{Clause, range, upTo, over}
+use Rattle.clauses.specs.declared.ClauseSet.{ClauseSet}
+use Rattle.clauses.specs.declared.ClauseSet.the-variants.{Minimal, Extended}
 use Rattle.clauses.specs.declared.Group.{Group}
 use Rattle.clauses.specs.declared.Group.the-variants.{Cell, House}
 use Rattle.clauses.specs.declared.Shape.{Shape}
@@ -28,6 +30,14 @@ IsGroup (House h d) = (h < 27) × (d < 9)
 abbrev pub IsShape : Shape → Type 0
 IsShape (OneOf g) = IsGroup g
 IsShape (NotBoth g i j) = IsGroup g × (i < j) × (j < 9)
+
+-- set 1 has the cells' clauses and the houses' pairs, set 2 has all
+abbrev pub InSet : ClauseSet → Shape → Type 0
+InSet Extended s = Unit {0}
+InSet Minimal (OneOf (Cell c)) = Unit {0}
+InSet Minimal (OneOf (House h d)) = ⊥
+InSet Minimal (NotBoth (Cell c) i j) = ⊥
+InSet Minimal (NotBoth (House h d) i j) = Unit {0}
 
 -- the clause of a shape
 unfoldable pub clauseOf : Shape → Clause

@@ -1,18 +1,24 @@
--- The test of a legal completion decides the statement, and two grids that differ only in their blanks have the same completions.
+-- The test of a legal completion decides the statement, the keyer's check accepts exactly the grids, and two grids that differ only in
+-- their blanks have the same completions.
 -- Assumes nothing.
-use mathlib.Core.Path.{_≡_, ap, sym, _∙_, subst}
+use mathlib.Core.Path.{_≡_, refl, ap, sym, _∙_, subst}
 use mathlib.Core.Logic.{_↔_}
 use mathlib.Core.Bool.{Bool, true, false, cond, _&&_, _||_, not}
-use mathlib.Core.List.{List, map}
+use mathlib.Core.List.{List}
 use Prim.Native.Nat.{ℕ, _-_, _≤_, _<_}
 use native.Mathlib.Omega.{arith}
-use lib.Dec.{T, eqb, leb, eqb→eq, eqb-refl, leb→le, le→leb}
+use borrow.Author.Tests.{eqb-true, ltb-true, ltb-false}
+use lib.Dec.{T, eqb, leb, ltb, eqb→eq, eqb-refl, leb→le, le→leb}
 use lib.ListN.{length, List·getD-map}
 use Rattle.grid.specs.Counting.{all}
-use Rattle.grid.specs.Grid.{byte, isDigit, digitOf, digitsOf}
-use Rattle.grid.specs.Completion.{times, Legal, isFull, keepsGivens, eachOnce, isLegal}
+use Rattle.grid.specs.Grid.{byte, isDigit, hasMeaning, digitOf, digitsOf}
+use Rattle.grid.specs.Completion.{times, Legal, isFull, keepsGivens, eachOnce, isLegal, isGrid}
+use Rattle.grid.specs.Refusals.{firstBad, gridCheck}
+use Rattle.grid.specs.declared.Refusal.{Refusal}
+use Rattle.grid.specs.declared.Checked.the-variants.{Accepted, Refused}
 use Rattle.grid.proofs.Table.{and-iff}
 use Rattle.grid.proofs.Counting.{all-iff}
+use Rattle.grid.proofs.First.{all-pass}
 
 pub digit-iff : (b : ℕ) → T (isDigit b) ↔ ((49 ≤ b) × (b ≤ 57))
 unfolding isDigit
@@ -27,14 +33,47 @@ keep-iff : (a b : Bool) → T (not a || b) ↔ (T a → T b)
 keep-iff true b = ((λ x y. x), λ x. x tt)
 keep-iff false b = ((λ x y. absurd y), λ x. tt)
 
-module _ (g b : List ℕ) where
-  full : T (isFull b) ↔ ((length b ≡ 81) × ((c : ℕ) → c < 81 → T (isDigit (byte b c))))
-  full =
-      let i = and-iff (eqb (length b) 81) (all 81 (λ c. isDigit (byte b c))) in
-      let e = eq-iff (length b) 81 in
-      let d = all-iff 81 (λ c. isDigit (byte b c)) in
-      ((λ t. (e .0 (i .0 t .0), d .0 (i .0 t .1))), λ h. i .1 (e .1 (h .0), d .1 (h .1)))
+full-iff : (b : List ℕ) → T (isFull b) ↔ ((length b ≡ 81) × ((c : ℕ) → c < 81 → T (isDigit (byte b c))))
+full-iff b =
+    let i = and-iff (eqb (length b) 81) (all 81 (λ c. isDigit (byte b c))) in
+    let e = eq-iff (length b) 81 in
+    let d = all-iff 81 (λ c. isDigit (byte b c)) in
+    ((λ t. (e .0 (i .0 t .0), d .0 (i .0 t .1))), λ h. i .1 (e .1 (h .0), d .1 (h .1)))
 
+long : (l : List ℕ) (rest : Bool) → eqb (length l) 81 && rest ≡ true → length l ≡ 81
+long l rest e = eqb→eq (length l) 81 (and-iff (eqb (length l) 81) rest .0 (subst T (sym e) tt) .0)
+
+pub grid-long : (g : List ℕ) → isGrid g ≡ true → length g ≡ 81
+unfolding isGrid
+grid-long g e = long g _ e
+
+pub full-long : (b : List ℕ) → isFull b ≡ true → length b ≡ 81
+full-long b e = long b _ e
+
+pub full-digit : (b : List ℕ) → isFull b ≡ true → (c : ℕ) → c < 81 → (c < length b) × (49 ≤ byte b c) × (byte b c ≤ 57)
+full-digit b f c h =
+    let d = digit-iff (byte b c) .0 (full-iff b .0 (subst T (sym f) tt) .1 c h) in
+    (omega (arith, full-long b f), d .0, d .1)
+
+pub not-accepted : (r : Refusal) → Refused r ≡ Accepted → ⊥
+not-accepted r q = let z : _≡_ {A = ℕ} 0 1 = cc in omega arith
+
+-- The keyer's check accepts exactly the grids.
+pub grid-iff : (g : List ℕ) → (gridCheck g ≡ Accepted) ↔ T (isGrid g)
+unfolding gridCheck firstBad isGrid
+grid-iff g = go (eqb (length g) 81) (ltb (firstBad g) 81) refl refl
+  where
+    means : (length g ≤ firstBad g) ↔ ((c : ℕ) → c < length g → T (hasMeaning (byte g c)))
+    means = all-pass hasMeaning 0 g
+
+    go : (x y : Bool) → eqb (length g) 81 ≡ x → ltb (firstBad g) 81 ≡ y → (gridCheck g ≡ Accepted) ↔ T (isGrid g)
+    go false y e f = rw e ((λ q. absurd (not-accepted _ q)), λ t. absurd t)
+    go true true e f = let n = eqb-true (length g) 81 e in let early = ltb-true (firstBad g) 81 f in
+        rw (e, f) ((λ q. absurd (not-accepted _ q)), λ t. absurd (omega (arith, means .1 (λ c h. all-iff 81 _ .0 t c (omega arith)))))
+    go true false e f = let n = eqb-true (length g) 81 e in let late = ltb-false (firstBad g) 81 f in
+        rw (e, f) ((λ q. all-iff 81 _ .1 (λ c h. means .0 (omega arith) c (omega arith))), λ t. refl)
+
+module _ (g b : List ℕ) where
   kept : T (keepsGivens g b) ↔ ((c : ℕ) → c < 81 → T (isDigit (byte g c)) → byte b c ≡ byte g c)
   kept =
       let a = all-iff 81 (λ c. not (isDigit (byte g c)) || eqb (byte b c) (byte g c)) in
@@ -57,8 +96,8 @@ module _ (g b : List ℕ) where
         (λ t.
             let u = x .0 t in
             let v = y .0 (u .1) in
-            record { long = full .0 (u .0) .0; digits = full .0 (u .0) .1; keeps = kept .0 (v .0); once = once .0 (v .1) }),
-        λ l. x .1 (full .1 (l .long, l .digits), y .1 (kept .1 (l .keeps), once .1 (l .once))),
+            record { long = full-iff b .0 (u .0) .0; digits = full-iff b .0 (u .0) .1; keeps = kept .0 (v .0); once = once .0 (v .1) }),
+        λ l. x .1 (full-iff b .1 (l .long, l .digits), y .1 (kept .1 (l .keeps), once .1 (l .once))),
       )
 
 -- a byte that gives the digit of a given is that given

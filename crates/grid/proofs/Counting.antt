@@ -1,5 +1,5 @@
--- Laws of counting below a bound, and the pigeonhole on a square: n things that each have some of n places, where no place has two
--- things, have one place each, and each place has one thing.
+-- Laws of counting and of testing below a bound, and the pigeonhole on a square: n things that each have some of n places, where no
+-- place has two things, have one place each, and each place has one thing.
 -- Assumes nothing.
 use mathlib.Core.Path.{_≡_, refl, ap, sym, _∙_, subst}
 use mathlib.Core.Logic.{_↔_}
@@ -7,9 +7,10 @@ use mathlib.Core.Bool.{Bool, true, false}
 use Prim.Native.Nat.{ℕ, zero, suc, _+_, _≤_, _<_}
 use native.Mathlib.Decide.{ℕ-discrete, decLt}
 use native.Mathlib.Omega.{arith}
+use native.Mathlib.Numerals.{add-one}
 use lib.Dec.{T}
 use Rattle.grid.specs.Counting.{tick, total, tally, all}
-use Rattle.grid.proofs.Table.{and-iff}
+use Rattle.grid.proofs.Table.{and-iff, refuted}
 
 -- a number below suc n is n or below n
 last : {P : ℕ → Type 0} (n : ℕ) → P n → ((k : ℕ) → k < n → P k) → (k : ℕ) → k < suc n → P k
@@ -27,10 +28,35 @@ all-iff (suc n) p =
     let c = and-iff (p n) (all n p) in
     ((λ x. last {P = λ k. T (p k)} n (c .0 x .0) (r .0 (c .0 x .1))), λ x. c .1 (x n (omega arith), r .1 (λ k h. x k (omega arith))))
 
+module _ (p : ℕ → Bool) (n : ℕ) where
+  -- a scan of the numbers below n has come to k: all before k pass the test
+  abbrev pub Passed : ℕ → Type 0
+  Passed k = (k ≤ n) × (all k p ≡ true)
+
+  pub passed-none : Passed 0
+  unfolding all
+  passed-none = (omega arith, refl)
+
+  module _ (k : ℕ) where
+    pub passed-more : Passed k → k < n → p k ≡ true → Passed (k + 1)
+    unfolding all
+    passed-more s h t = (omega arith, rw (add-one k, t) (s .1))
+
+    pub passed-all : Passed k → n ≤ k → true ≡ all n p
+    passed-all s h = let e : k ≡ n = omega arith in subst (λ m. true ≡ all m p) e (sym (s .1))
+
+    pub one-fails : k < n → p k ≡ false → false ≡ all n p
+    one-fails h e = refuted (all n p) (λ t. subst T e (all-iff n p .0 t k h))
+
 pub total-same : (n : ℕ) (f g : ℕ → ℕ) → ((k : ℕ) → k < n → f k ≡ g k) → total n f ≡ total n g
 unfolding total
 total-same zero f g h = refl
 total-same (suc n) f g h = omega (arith, h n (omega arith), total-same n f g (λ k b. h k (omega arith)))
+
+-- one number more: its tick is added
+pub tally-more : (n : ℕ) (p : ℕ → Bool) → tally (n + 1) p ≡ tick (p n) + tally n p
+unfolding total
+tally-more n p = rw (add-one n)
 
 pub tally-same : (n : ℕ) (p q : ℕ → Bool) → ((k : ℕ) → k < n → p k ≡ q k) → tally n p ≡ tally n q
 tally-same n p q h = total-same n (λ k. tick (p k)) (λ k. tick (q k)) (λ k b. ap tick (h k b))
@@ -76,6 +102,13 @@ module _ (f : ℕ → ℕ) where
   high-tight (suc n) h t =
       let l = high n (λ i b. h i (omega arith)) in
       last {P = λ i. f i ≡ 1} n (omega (arith, h n (omega arith))) (high-tight n (λ i b. h i (omega arith)) (omega (arith, h n (omega arith))))
+
+pub tally-bound : (n : ℕ) (p : ℕ → Bool) → tally n p ≤ n
+tally-bound n p = high (λ k. tick (p k)) n (λ i b. most (p i))
+  where
+    most : (x : Bool) → tick x ≤ 1
+    most true = omega arith
+    most false = omega arith
 
 module _ (n : ℕ) (R : ℕ → ℕ → Bool) (some : (i : ℕ) → i < n → 1 ≤ tally n (R i)) (most : (j : ℕ) → j < n → tally n (λ i. R i j) ≤ 1) where
   pub square-rows : (i : ℕ) → i < n → tally n (R i) ≡ 1

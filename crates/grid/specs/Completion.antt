@@ -6,7 +6,7 @@ use Prim.Native.Nat.{ℕ, _+_, _<_}
 use lib.Dec.{T, eqb}
 use lib.ListN.{length}
 use Rattle.grid.specs.Counting.{tally, all}
-use Rattle.grid.specs.Grid.{byte, isDigit}
+use Rattle.grid.specs.Grid.{byte, isDigit, hasMeaning}
 use Rattle.grid.specs.House.{cellOf}
 
 -- at how many cells of house h the digit d + 1 stands, d from 0 to 8
@@ -35,3 +35,11 @@ eachOnce b = all 27 (λ h. all 9 (λ d. eqb (times b h d) 1))
 -- the same as a test
 unfoldable pub isLegal : List ℕ → List ℕ → Bool
 isLegal g b = isFull b && (keepsGivens g b && eachOnce b)
+
+-- g is a grid: 81 bytes, each with a meaning
+unfoldable pub isGrid : List ℕ → Bool
+isGrid g = eqb (length g) 81 && all 81 (λ c. hasMeaning (byte g c))
+
+-- g is a grid, and b a legal completion of it
+unfoldable pub isCompletion : List ℕ → List ℕ → Bool
+isCompletion g b = isGrid g && isLegal g b

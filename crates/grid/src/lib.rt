@@ -3,12 +3,14 @@
 //     Refusal, Checked     what a call says that turns its input down; what a check says
 //     check_grid           the keyer's check, refusals 11 and 12
 //     first_bad_byte       the place of the first byte of no meaning, in a grid or a batch
-//     house_cell           the table of the 27 houses
+//     legal                the test of a legal completion
 ghost use mathlib.Core.Path.{_≡_};
 ghost use Prim.Native.Nat.{_<_};
 ghost use Rattle.grid.specs.Grid.{hasMeaning};
 ghost use Rattle.grid.specs.House.{cellOf};
 ghost use Rattle.grid.specs.Refusals.{firstBad, gridCheck};
+
+pub mod legal;
 
 // A refusal of document 01: its number, and a place counted from 0 (0 where none is named).
 pub struct Refusal {
@@ -101,7 +103,7 @@ const HOUSES: [[u8; 9]; 27] = [
 ];
 
 // The k-th cell of a house.
-pub fn house_cell(house: usize, k: usize) -> usize
+fn house_cell(house: usize, k: usize) -> usize
     requires { ⌜ (house < 27) × (k < 9) ⌝ }
     ensures { λ r. ⌜ r ≡ cellOf house k ⌝ }
 {

@@ -1,11 +1,13 @@
 // The calls as C functions, for hosts to link. A slice passes as a pointer and a length.
 //
-//     grader_check_grid    the keyer's check of a grid
-//     grader_clause        the clause call
+//     grader_check_grid       the keyer's check of a grid
+//     grader_is_completion    the test of a legal completion
+//     grader_clause           the clause call
 use clauses::ClauseAnswer;
 use grid::Checked;
 use grid::Refusal;
 ghost use mathlib.Core.Path.{_≡_};
+ghost use Rattle.grid.specs.Completion.{isCompletion};
 ghost use Rattle.grid.specs.Refusals.{gridCheck};
 ghost use Rattle.clauses.specs.Call.{clauseCall};
 ghost use Rattle.host.specs.Packed.{packedRefusal, packedResult, packedCheck, packedClause, packedGiven};
@@ -49,6 +51,13 @@ pub extern "C" fn grader_check_grid(grid: &[u8]) -> u64
     ensures { λ p. ⌜ p ≡ packedCheck (gridCheck (now (grid .entry))) ⌝ }
 {
     pack_check(grid::check_grid(grid))
+}
+
+#[no_mangle]
+pub extern "C" fn grader_is_completion(grid: &[u8], candidate: &[u8]) -> bool
+    ensures { λ r. ⌜ r ≡ isCompletion (now (grid .entry)) (now (candidate .entry)) ⌝ }
+{
+    grid::legal::is_completion(grid, candidate)
 }
 
 #[no_mangle]

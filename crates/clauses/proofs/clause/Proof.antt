@@ -6,30 +6,15 @@ use borrow.Author.Needs.{needs}
 use Rattle.clauses.proofs.clause.Statement.{statement}
 use Rattle.clauses.proofs.clause.Tie as tie
 
-clause-of-requires : tie.Need-clause-of-requires
-clause-of-requires c κs = search needs
-
-same-length : tie.Need-same-length
-same-length c = search needs
-
 returns : tie.Need-returns
 unfolding clauseCall
 returns c = let a = c .before .before .before .before .args in rw (eq-eqb (a .set) 1 (c .before .before .before .if1 .taken)) (c .before .clause-of .ensures)
-
-clause-of-requires-2 : tie.Need-clause-of-requires-2
-clause-of-requires-2 c κs = search needs
-
-same-length-2 : tie.Need-same-length-2
-same-length-2 c = search needs
 
 returns-2 : tie.Need-returns-2
 unfolding clauseCall
 returns-2 c =
     let a = c .before .before .before .before .before .args in
     rw (ne-eqb (a .set) 1 (c .before .before .before .before .if1 .left), eq-eqb (a .set) 2 (c .before .before .before .if2 .taken)) (c .before .clause-of2 .ensures)
-
-refused-requires : tie.Need-refused-requires
-refused-requires c κs = search needs
 
 returns-3 : tie.Need-returns-3
 unfolding clauseCall
@@ -40,12 +25,5 @@ returns-3 c =
 pub clause-spec : {M : Type 1} → statement M
 clause-spec =
     tie.close
-    (tie.spec
-    clause-of-requires
-    same-length
-    returns
-    clause-of-requires-2
-    same-length-2
-    returns-2
-    refused-requires
-    returns-3)
+    (tie.spec (λ c κs. search needs) (λ c. search needs) returns (λ c κs. search needs) (λ c. search needs) returns-2
+    (λ c κs. search needs) returns-3)

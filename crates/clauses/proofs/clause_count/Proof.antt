@@ -8,12 +8,6 @@ use borrow.Author.Needs.{needs}
 use Rattle.clauses.proofs.clause_count.Statement.{statement}
 use Rattle.clauses.proofs.clause_count.Tie as tie
 
-enum-told : tie.Need-enum-told
-enum-told c = search needs
-
-enum-told-2 : tie.Need-enum-told-2
-enum-told-2 c = search needs
-
 returns : tie.Need-returns
 returns c = sym (ap (λ s. length (clausesOf s)) (c .enum-told .given .1) ∙ set-long Minimal)
 
@@ -21,4 +15,6 @@ returns-2 : tie.Need-returns-2
 returns-2 c = sym (ap (λ s. length (clausesOf s)) (c .enum-told2 .given .1) ∙ set-long Extended)
 
 pub clause-count-spec : {M : Type 1} → statement M
-clause-count-spec = tie.close (tie.spec enum-told enum-told-2 returns returns-2)
+clause-count-spec =
+    tie.close
+    (tie.spec (λ c. search needs) (λ c. search needs) returns returns-2)

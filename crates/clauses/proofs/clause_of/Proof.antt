@@ -14,21 +14,12 @@ use borrow.Author.Needs.{needs}
 use Rattle.clauses.proofs.clause_of.Statement.{statement}
 use Rattle.clauses.proofs.clause_of.Tie as tie
 
-clause-count-requires : tie.Need-clause-count-requires
-clause-count-requires c κs = search needs
-
-refused-requires : tie.Need-refused-requires
-refused-requires c κs = search needs
-
 returns : tie.Need-returns
 unfolding clauseGiven
 returns c =
     let a = c .before .before .before .args in
     rw (le-leb (length (clausesOf (a .set))) (a .n) (omega (arith, c .before .before .clause-count .ensures, c .before .if1 .taken)))
     (ap (λ r. (r, a .out .now)) (c .refused .ensures))
-
-refused-requires-2 : tie.Need-refused-requires-2
-refused-requires-2 c κs = search needs
 
 -- the set has the number
 has : (c : tie.Else1) → c .before .before .args .n < length (clausesOf (c .before .before .args .set))
@@ -41,19 +32,10 @@ returns-2 c =
     rw (lt-leb (length (clausesOf (a .set))) (a .n) (has (c .before .before)), ne-eqb (length (a .out .now)) 9 (c .before .if2 .taken))
     (ap (λ r. (r, a .out .now)) (c .refused2 .ensures))
 
-shape-requires : tie.Need-shape-requires
-shape-requires c κs = search needs
-
 fill-requires : tie.Need-fill-requires
 fill-requires c κs =
     let s = c .before .before .before in
     (subst IsShape (sym (c .before .shape .ensures)) (shape-is (s .before .before .args .n) (omega (arith, has s, set-long (s .before .before .args .set), sizes (s .before .before .args .set)))), c .before .before .if2 .left)
-
-length-of-requires : tie.Need-length-of-requires
-length-of-requires c κs = search needs
-
-same-length : tie.Need-same-length
-same-length c = search needs
 
 returns-3 : tie.Need-returns-3
 unfolding clauseGiven
@@ -69,14 +51,5 @@ returns-3 c =
 pub clause-of-spec : {M : Type 1} → statement M
 clause-of-spec =
     tie.close
-    (tie.spec
-    clause-count-requires
-    refused-requires
-    returns
-    refused-requires-2
-    returns-2
-    shape-requires
-    fill-requires
-    length-of-requires
-    same-length
-    returns-3)
+    (tie.spec (λ c κs. search needs) (λ c κs. search needs) returns (λ c κs. search needs) returns-2 (λ c κs. search needs)
+    fill-requires (λ c κs. search needs) (λ c. search needs) returns-3)

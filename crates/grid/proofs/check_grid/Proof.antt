@@ -11,9 +11,6 @@ returns : tie.Need-returns
 unfolding gridCheck
 returns c = rw (ne-eqb (length (c .before .before .args .grid .now)) 81 (c .if1 .taken))
 
-first-bad-byte-requires : tie.Need-first-bad-byte-requires
-first-bad-byte-requires c κs = search needs
-
 returns-2 : tie.Need-returns-2
 unfolding gridCheck
 returns-2 c = let f = c .before .first-bad-byte in
@@ -25,4 +22,6 @@ returns-3 c = let f = c .before .first-bad-byte in
     rw (eq-eqb (length (c .before .before .before .before .args .grid .now)) 81 (c .before .before .if1 .left), ← f .ensures, le-ltb (f .result) 81 (c .if2 .left))
 
 pub check-grid-spec : {M : Type 1} → statement M
-check-grid-spec = tie.close (tie.spec returns first-bad-byte-requires returns-2 returns-3)
+check-grid-spec =
+    tie.close
+    (tie.spec returns (λ c κs. search needs) returns-2 returns-3)

@@ -22,22 +22,10 @@ abbrev μ-loop : tie.MeasureT-loop
 loop-holds : tie.Need-loop-holds Inv-loop μ-loop
 loop-holds c = (omega arith, omega arith)
 
-shared-slice-read-has-meaning : tie.Need-shared-slice-read-has-meaning Inv-loop μ-loop
-shared-slice-read-has-meaning c = omega arith
-
-has-meaning-requires : tie.Need-has-meaning-requires Inv-loop μ-loop
-has-meaning-requires c κs = tt
-
 returns : tie.Need-returns Inv-loop μ-loop
 unfolding firstBad
 returns c = let k = c .before .before .before .before in
     first-here bad (k .before .before .args .bytes .now) 0 (k .loop .i) (k .loop .inv) (omega arith) (ap not (sym (c .before .has-meaning .ensures)) ∙ c .if1 .taken)
-
-add-i : tie.Need-add-i Inv-loop μ-loop
-add-i c = omega arith
-
-loop-less : tie.Need-loop-less Inv-loop μ-loop
-loop-less c = omega arith
 
 loop-again : tie.Need-loop-again Inv-loop μ-loop
 loop-again c = let k = c .before .before .before .before in
@@ -50,14 +38,5 @@ returns-2 c = first-none bad (c .before .before .before .args .bytes .now) (c .b
 pub first-bad-byte-spec : {M : Type 1} → statement M
 first-bad-byte-spec =
     tie.close
-    (tie.spec
-    Inv-loop
-    μ-loop
-    loop-holds
-    shared-slice-read-has-meaning
-    has-meaning-requires
-    returns
-    add-i
-    loop-less
-    loop-again
+    (tie.spec Inv-loop μ-loop loop-holds (λ c. omega arith) (λ c κs. tt) returns (λ c. omega arith) (λ c. omega arith) loop-again
     returns-2)

@@ -55,15 +55,6 @@ holds h k hh hk =
     let n : length row ≡ 9 = eqb→eq (length row) 9 (t .0) in
     eqb→eq (getD row k 0) (cellOf h k) (at (λ k c. eqb c (cellOf h k)) 0 row (t .1) k (subst (λ m. k < m) (sym n) hk))
 
-mul-result : tie.Need-mul-result
-mul-result c = search needs
-
-index-1-result : tie.Need-index-1-result
-index-1-result c = search needs
-
-index-2-result : tie.Need-index-2-result
-index-2-result c = search needs
-
 cast-result : tie.Need-cast-result
 unfolding houses
 cast-result c =
@@ -76,4 +67,6 @@ unfolding houses
 returns c = holds (c .before .args .house) (c .before .args .k) (search needs) (search needs)
 
 pub house-cell-spec : {M : Type 1} → statement M
-house-cell-spec = tie.close (tie.spec mul-result index-1-result index-2-result cast-result returns)
+house-cell-spec =
+    tie.close
+    (tie.spec (λ c. search needs) (λ c. search needs) (λ c. search needs) cast-result returns)

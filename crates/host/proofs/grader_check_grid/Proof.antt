@@ -5,14 +5,10 @@ use borrow.Author.Needs.{needs}
 use Rattle.host.proofs.grader_check_grid.Statement.{statement}
 use Rattle.host.proofs.grader_check_grid.Tie as tie
 
-check-grid-requires : tie.Need-check-grid-requires
-check-grid-requires c κs = search needs
-
-pack-check-requires : tie.Need-pack-check-requires
-pack-check-requires c κs = search needs
-
 returns : tie.Need-returns
 returns c = c .pack-check .ensures ∙ ap packedCheck (c .before .check-grid .ensures)
 
 pub grader-check-grid-spec : {M : Type 1} → statement M
-grader-check-grid-spec = tie.close (tie.spec check-grid-requires pack-check-requires returns)
+grader-check-grid-spec =
+    tie.close
+    (tie.spec (λ c κs. search needs) (λ c κs. search needs) returns)

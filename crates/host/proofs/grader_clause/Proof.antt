@@ -5,19 +5,12 @@ use borrow.Author.Needs.{needs}
 use Rattle.host.proofs.grader_clause.Statement.{statement}
 use Rattle.host.proofs.grader_clause.Tie as tie
 
-clause-requires : tie.Need-clause-requires
-clause-requires c κs = search needs
-
-pack-clause-requires : tie.Need-pack-clause-requires
-pack-clause-requires c κs = search needs
-
-same-length : tie.Need-same-length
-same-length c = search needs
-
 returns : tie.Need-returns
 returns c =
     let done = c .before .before .clause in
     ap (λ p. (p, done .last .1 .1 .0)) (c .pack-clause .ensures) ∙ ap packedGiven (done .ensures)
 
 pub grader-clause-spec : {M : Type 1} → statement M
-grader-clause-spec = tie.close (tie.spec clause-requires pack-clause-requires same-length returns)
+grader-clause-spec =
+    tie.close
+    (tie.spec (λ c κs. search needs) (λ c κs. search needs) (λ c. search needs) returns)

@@ -5,21 +5,10 @@ use borrow.Author.Needs.{needs}
 use Rattle.host.proofs.pack_check.Statement.{statement}
 use Rattle.host.proofs.pack_check.Tie as tie
 
-enum-told : tie.Need-enum-told
-enum-told c = search needs
-
-enum-known-c : tie.Need-enum-known-c
-enum-known-c c = search needs
-
-pack-refusal-requires : tie.Need-pack-refusal-requires
-pack-refusal-requires c κs = search needs
-
-returns : tie.Need-returns
-returns c = search needs
-
 returns-2 : tie.Need-returns-2
 returns-2 c = c .pack-refusal .ensures ∙ ap packedCheck (sym (c .before .before .c .given .1))
 
 pub pack-check-spec : {M : Type 1} → statement M
 pack-check-spec =
-    tie.close (tie.spec enum-told enum-known-c pack-refusal-requires returns returns-2)
+    tie.close
+    (tie.spec (λ c. search needs) (λ c. search needs) (λ c κs. search needs) (λ c. search needs) returns-2)

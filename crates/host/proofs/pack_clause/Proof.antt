@@ -5,18 +5,6 @@ use borrow.Author.Needs.{needs}
 use Rattle.host.proofs.pack_clause.Statement.{statement}
 use Rattle.host.proofs.pack_clause.Tie as tie
 
-enum-known-a : tie.Need-enum-known-a
-enum-known-a c = search needs
-
-pack-result-requires : tie.Need-pack-result-requires
-pack-result-requires c κs = search needs
-
-enum-known-a-2 : tie.Need-enum-known-a-2
-enum-known-a-2 c = search needs
-
-pack-refusal-requires : tie.Need-pack-refusal-requires
-pack-refusal-requires c κs = search needs
-
 returns : tie.Need-returns
 returns c = c .pack-result .ensures ∙ ap packedClause (sym (c .before .before .a .given .1))
 
@@ -26,10 +14,4 @@ returns-2 c = c .pack-refusal .ensures ∙ ap packedClause (sym (c .before .befo
 pub pack-clause-spec : {M : Type 1} → statement M
 pack-clause-spec =
     tie.close
-    (tie.spec
-    enum-known-a
-    pack-result-requires
-    enum-known-a-2
-    pack-refusal-requires
-    returns
-    returns-2)
+    (tie.spec (λ c. search needs) (λ c κs. search needs) (λ c. search needs) (λ c κs. search needs) returns returns-2)

@@ -9,14 +9,8 @@ use borrow.Author.Needs.{needs}
 use Rattle.clauses.proofs.decode.fill.Statement.{statement}
 use Rattle.clauses.proofs.decode.fill.Tie as tie
 
-enum-known-shape : tie.Need-enum-known-shape
-enum-known-shape c = search needs
-
 fill-group-requires : tie.Need-fill-group-requires
 fill-group-requires c κs = let s = c .before .before .before .before in (subst IsShape (c .before .before .shape .given .1) (s .pre .0), s .pre .1)
-
-enum-known-shape-2 : tie.Need-enum-known-shape-2
-enum-known-shape-2 c = search needs
 
 place-requires : tie.Need-place-requires
 place-requires c κs = let g = subst IsShape (c .before .shape2 .given .1) (c .before .before .before .pre .0) in (g .0, omega (arith, g .1, g .2))
@@ -24,17 +18,8 @@ place-requires c κs = let g = subst IsShape (c .before .shape2 .given .1) (c .b
 place-requires-2 : tie.Need-place-requires-2
 place-requires-2 c κs = let g = subst IsShape (c .before .before .shape2 .given .1) (c .before .before .before .before .pre .0) in (g .0, g .2)
 
-fill-pair-requires : tie.Need-fill-pair-requires
-fill-pair-requires c κs = search needs
-
-same-length : tie.Need-same-length
-same-length c = search needs
-
 returns : tie.Need-returns
 returns c = c .before .fill-group .ensures ∙ ap (λ s. padded (clauseOf s)) (sym (c .before .before .before .before .shape .given .1))
-
-same-length-2 : tie.Need-same-length-2
-same-length-2 c = search needs
 
 returns-2 : tie.Need-returns-2
 unfolding clauseOf
@@ -47,14 +32,5 @@ returns-2 c =
 pub fill-spec : {M : Type 1} → statement M
 fill-spec =
     tie.close
-    (tie.spec
-    enum-known-shape
-    fill-group-requires
-    enum-known-shape-2
-    place-requires
-    place-requires-2
-    fill-pair-requires
-    same-length
-    returns
-    same-length-2
-    returns-2)
+    (tie.spec (λ c. search needs) fill-group-requires (λ c. search needs) place-requires place-requires-2 (λ c κs. search needs)
+    (λ c. search needs) returns (λ c. search needs) returns-2)

@@ -25,17 +25,8 @@ place-requires c κs = (c .before .before .pre .0, c .loop-test .taken)
 positive-requires : tie.Need-positive-requires Inv-loop μ-loop
 positive-requires c κs = c .place .ensures .1
 
-mul-t7 : tie.Need-mul-t7 Inv-loop μ-loop
-mul-t7 c = omega arith
-
 slice-set-from-out : tie.Need-slice-set-from-out Inv-loop μ-loop
 slice-set-from-out c = omega (arith, c .before .before .before .loop .inv .long)
-
-add-k : tie.Need-add-k Inv-loop μ-loop
-add-k c = omega arith
-
-loop-less : tie.Need-loop-less Inv-loop μ-loop
-loop-less c = omega arith
 
 loop-again : tie.Need-loop-again Inv-loop μ-loop
 loop-again c =
@@ -54,16 +45,5 @@ returns c = let w = c .before in let g = w .before .args .group in filled-all (c
 pub fill-group-spec : {M : Type 1} → statement M
 fill-group-spec =
     tie.close
-    (tie.spec
-    Inv-loop
-    μ-loop
-    loop-holds
-    place-requires
-    positive-requires
-    mul-t7
-    slice-set-from-out
-    add-k
-    loop-less
-    loop-again
-    same-length
-    returns)
+    (tie.spec Inv-loop μ-loop loop-holds place-requires positive-requires (λ c. omega arith) slice-set-from-out (λ c. omega arith)
+    (λ c. omega arith) loop-again same-length returns)

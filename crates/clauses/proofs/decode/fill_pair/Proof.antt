@@ -44,17 +44,8 @@ loop-holds c =
     let f = filled-more t (s .args .out .now) 0 _ (filled-none t (s .args .out .now) (s .pre .2)) (omega arith) (returned _ (c .before .negative .ok) ∙ c .before .negative .ensures) in
     (omega arith, filled-more t _ 1 _ f (omega arith) (returned _ (c .negative2 .ok) ∙ c .negative2 .ensures))
 
-mul-out : tie.Need-mul-out Inv-loop μ-loop
-mul-out c = omega arith
-
 slice-set-of-out : tie.Need-slice-set-of-out Inv-loop μ-loop
 slice-set-of-out c = omega (arith, c .before .loop .inv .1 .long)
-
-add-k : tie.Need-add-k Inv-loop μ-loop
-add-k c = omega arith
-
-loop-less : tie.Need-loop-less Inv-loop μ-loop
-loop-less c = omega arith
 
 loop-again : tie.Need-loop-again Inv-loop μ-loop
 loop-again c =
@@ -75,18 +66,5 @@ returns c =
 pub fill-pair-spec : {M : Type 1} → statement M
 fill-pair-spec =
     tie.close
-    (tie.spec
-    Inv-loop
-    μ-loop
-    negative-requires
-    slice-set-from-out
-    negative-requires-2
-    slice-set-from-out-2
-    loop-holds
-    mul-out
-    slice-set-of-out
-    add-k
-    loop-less
-    loop-again
-    same-length
-    returns)
+    (tie.spec Inv-loop μ-loop negative-requires slice-set-from-out negative-requires-2 slice-set-from-out-2 loop-holds
+    (λ c. omega arith) slice-set-of-out (λ c. omega arith) (λ c. omega arith) loop-again same-length returns)

@@ -6,12 +6,6 @@ use borrow.Author.Needs.{needs}
 use Rattle.clauses.proofs.decode.length_of.Statement.{statement}
 use Rattle.clauses.proofs.decode.length_of.Tie as tie
 
-enum-told : tie.Need-enum-told
-enum-told c = search needs
-
-enum-told-2 : tie.Need-enum-told-2
-enum-told-2 c = search needs
-
 returns : tie.Need-returns
 unfolding clauseOf
 returns c = ap (λ s. length (clauseOf s)) (sym (c .enum-told .given .1))
@@ -21,4 +15,6 @@ unfolding clauseOf
 returns-2 c = ap (λ s. length (clauseOf s)) (sym (c .enum-told2 .given .1))
 
 pub length-of-spec : {M : Type 1} → statement M
-length-of-spec = tie.close (tie.spec enum-told enum-told-2 returns returns-2)
+length-of-spec =
+    tie.close
+    (tie.spec (λ c. search needs) (λ c. search needs) returns returns-2)

@@ -6,14 +6,10 @@ use borrow.Author.Needs.{needs}
 use Rattle.clauses.proofs.decode.pair.Statement.{statement}
 use Rattle.clauses.proofs.decode.pair.Tie as tie
 
-array-read-wide : tie.Need-array-read-wide
-array-read-wide c = search needs
-
-wide-requires : tie.Need-wide-requires
-wide-requires c κs = search needs
-
 returns : tie.Need-returns
 returns c = ap (λ p. NotBoth (c .before .args .group) (p / 10) (p % 10)) (c .wide .ensures)
 
 pub pair-spec : {M : Type 1} → statement M
-pair-spec = tie.close (tie.spec array-read-wide wide-requires returns)
+pair-spec =
+    tie.close
+    (tie.spec (λ c. search needs) (λ c κs. search needs) returns)

@@ -8,17 +8,11 @@ use borrow.Author.Needs.{needs}
 use Rattle.clauses.proofs.decode.place.Statement.{statement}
 use Rattle.clauses.proofs.decode.place.Tie as tie
 
-enum-known-group : tie.Need-enum-known-group
-enum-known-group c = search needs
-
 mul-result : tie.Need-mul-result
 mul-result c = let a = c .before .before .before in omega (arith, subst IsGroup (c .before .group .given .1) (a .pre .0))
 
 add-result : tie.Need-add-result
 add-result c = let a = c .before .before .before in omega (arith, subst IsGroup (c .before .group .given .1) (a .pre .0), a .pre .1)
-
-enum-known-group-2 : tie.Need-enum-known-group-2
-enum-known-group-2 c = search needs
 
 cell-requires : tie.Need-cell-requires
 cell-requires c κs = let a = c .before .before .before in (subst IsGroup (c .before .group2 .given .1) (a .pre .0) .0, a .pre .1)
@@ -49,13 +43,4 @@ returns-2 c =
 pub place-spec : {M : Type 1} → statement M
 place-spec =
     tie.close
-    (tie.spec
-    enum-known-group
-    mul-result
-    add-result
-    enum-known-group-2
-    cell-requires
-    mul-result-2
-    add-result-2
-    returns
-    returns-2)
+    (tie.spec (λ c. search needs) mul-result add-result (λ c. search needs) cell-requires mul-result-2 add-result-2 returns returns-2)

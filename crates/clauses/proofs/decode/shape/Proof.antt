@@ -9,42 +9,6 @@ use borrow.Author.Needs.{needs}
 use Rattle.clauses.proofs.decode.shape.Statement.{statement}
 use Rattle.clauses.proofs.decode.shape.Tie as tie
 
-column-requires : tie.Need-column-requires
-column-requires c κs = search needs
-
-pair-requires : tie.Need-pair-requires
-pair-requires c κs = search needs
-
-row-requires : tie.Need-row-requires
-row-requires c κs = search needs
-
-pair-requires-2 : tie.Need-pair-requires-2
-pair-requires-2 c κs = search needs
-
-boxed-requires : tie.Need-boxed-requires
-boxed-requires c κs = search needs
-
-row-pair-requires : tie.Need-row-pair-requires
-row-pair-requires c κs = search needs
-
-boxed-requires-2 : tie.Need-boxed-requires-2
-boxed-requires-2 c κs = search needs
-
-rows-pair-requires : tie.Need-rows-pair-requires
-rows-pair-requires c κs = search needs
-
-pair-requires-3 : tie.Need-pair-requires-3
-pair-requires-3 c κs = search needs
-
-column-requires-2 : tie.Need-column-requires-2
-column-requires-2 c κs = search needs
-
-row-requires-2 : tie.Need-row-requires-2
-row-requires-2 c κs = search needs
-
-boxed-requires-3 : tie.Need-boxed-requires-3
-boxed-requires-3 c κs = search needs
-
 returns : tie.Need-returns
 returns c = sym (shape-F1 (c .before .args .n) (c .if1 .taken))
 
@@ -83,25 +47,7 @@ returns-9 c = let n = c .before .before .before .before .before .before .before 
 pub shape-spec : {M : Type 1} → statement M
 shape-spec =
     tie.close
-    (tie.spec
-    column-requires
-    pair-requires
-    row-requires
-    pair-requires-2
-    boxed-requires
-    row-pair-requires
-    boxed-requires-2
-    rows-pair-requires
-    pair-requires-3
-    column-requires-2
-    row-requires-2
-    boxed-requires-3
-    returns
-    returns-2
-    returns-3
-    returns-4
-    returns-5
-    returns-6
-    returns-7
-    returns-8
+    (tie.spec (λ c κs. search needs) (λ c κs. search needs) (λ c κs. search needs) (λ c κs. search needs) (λ c κs. search needs)
+    (λ c κs. search needs) (λ c κs. search needs) (λ c κs. search needs) (λ c κs. search needs) (λ c κs. search needs)
+    (λ c κs. search needs) (λ c κs. search needs) returns returns-2 returns-3 returns-4 returns-5 returns-6 returns-7 returns-8
     returns-9)

@@ -8,9 +8,6 @@ use borrow.Author.Needs.{needs}
 use Rattle.clauses.proofs.literal.is_literal.Statement.{statement}
 use Rattle.clauses.proofs.literal.is_literal.Tie as tie
 
-magnitude-requires : tie.Need-magnitude-requires
-magnitude-requires c κs = search needs
-
 -- what the call says of the number itself
 is-magnitude : (c : tie.After-magnitude) → c .magnitude .result ≡ natAbs (c .before .args .l)
 is-magnitude c = c .magnitude .ensures ∙ ap natAbs (read (c .before .args .l) (c .before .fits .l))
@@ -24,4 +21,6 @@ unfolding isLiteral
 returns-2 c = rw (is-magnitude (c .before), le-leb 1 (natAbs (c .before .before .args .l)) (rw (is-magnitude (c .before)) at (c .if1 .left)))
 
 pub is-literal-spec : {M : Type 1} → statement M
-is-literal-spec = tie.close (tie.spec magnitude-requires returns returns-2)
+is-literal-spec =
+    tie.close
+    (tie.spec (λ c κs. search needs) returns returns-2)

@@ -43,9 +43,7 @@ cast-result-2 c =
 returns : tie.Need-returns
 returns c = rw (made (c .before) (c .if1 .taken)) (sym (rest (c .before) (c .if1 .taken) .1))
 
-returns-2 : tie.Need-returns-2
-returns-2 c = search needs
-
 pub magnitude-spec : {M : Type 1} → statement M
 magnitude-spec =
-    tie.close (tie.spec sub-result cast-result add-result cast-result-2 returns returns-2)
+    tie.close
+    (tie.spec sub-result cast-result add-result cast-result-2 returns (λ c. search needs))

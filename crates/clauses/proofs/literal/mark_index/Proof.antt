@@ -7,12 +7,6 @@ use borrow.Author.Needs.{needs}
 use Rattle.clauses.proofs.literal.mark_index.Statement.{statement}
 use Rattle.clauses.proofs.literal.mark_index.Tie as tie
 
-magnitude-requires : tie.Need-magnitude-requires
-magnitude-requires c κs = search needs
-
-sub-result : tie.Need-sub-result
-sub-result c = search needs
-
 returns : tie.Need-returns
 returns c = let s = c .before .before in omega (arith, c .before .magnitude .ensures ∙ ap natAbs (read (s .args .l) (s .fits .l)))
 
@@ -20,4 +14,6 @@ returns-2 : tie.Need-returns-2
 returns-2 c = let s = c .before .before in omega (arith, c .before .magnitude .ensures ∙ ap natAbs (read (s .args .l) (s .fits .l)))
 
 pub mark-index-spec : {M : Type 1} → statement M
-mark-index-spec = tie.close (tie.spec magnitude-requires sub-result returns returns-2)
+mark-index-spec =
+    tie.close
+    (tie.spec (λ c κs. search needs) (λ c. search needs) returns returns-2)

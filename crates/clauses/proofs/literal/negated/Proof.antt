@@ -10,9 +10,6 @@ use borrow.Author.Needs.{needs}
 use Rattle.clauses.proofs.literal.negated.Statement.{statement}
 use Rattle.clauses.proofs.literal.negated.Tie as tie
 
-is-literal-requires : tie.Need-is-literal-requires
-is-literal-requires c κs = search needs
-
 -- what the call says of the number itself
 tested : (c : tie.After-is-literal) → c .is-literal .result ≡ isLiteral (c .before .args .l)
 tested c = c .is-literal .ensures ∙ ap isLiteral (read (c .before .args .l) (c .before .fits .l))
@@ -39,4 +36,6 @@ unfolding negation
 returns-2 c = rw (← tested (c .before), c .if1 .left)
 
 pub negated-spec : {M : Type 1} → statement M
-negated-spec = tie.close (tie.spec is-literal-requires sub-result returns returns-2)
+negated-spec =
+    tie.close
+    (tie.spec (λ c κs. search needs) sub-result returns returns-2)

@@ -5,9 +5,6 @@ use borrow.Author.Needs.{needs}
 use Rattle.clauses.proofs.literal.negative.Statement.{statement}
 use Rattle.clauses.proofs.literal.negative.Tie as tie
 
-cast-result : tie.Need-cast-result
-cast-result c = search needs
-
 sub-result : tie.Need-sub-result
 sub-result c = let k = c .args .place in rw (negative-is k (c .pre)) (negative-fits k (c .pre))
 
@@ -15,4 +12,6 @@ returns : tie.Need-returns
 returns c = let k = c .args .place in rw (negative-is k (c .pre)) (read (negsuc k) (negative-fits k (c .pre)))
 
 pub negative-spec : {M : Type 1} → statement M
-negative-spec = tie.close (tie.spec cast-result sub-result returns)
+negative-spec =
+    tie.close
+    (tie.spec (λ c. search needs) sub-result returns)

@@ -6,9 +6,6 @@ use borrow.Author.Needs.{needs}
 use Rattle.clauses.proofs.literal.positive.Statement.{statement}
 use Rattle.clauses.proofs.literal.positive.Tie as tie
 
-cast-result : tie.Need-cast-result
-cast-result c = search needs
-
 add-result : tie.Need-add-result
 add-result c = let k = c .args .place in rw (positive-is k (c .pre)) (positive-fits k (c .pre))
 
@@ -16,4 +13,6 @@ returns : tie.Need-returns
 returns c = let k = c .args .place in rw (positive-is k (c .pre)) (read (pos (suc k)) (positive-fits k (c .pre)))
 
 pub positive-spec : {M : Type 1} → statement M
-positive-spec = tie.close (tie.spec cast-result add-result returns)
+positive-spec =
+    tie.close
+    (tie.spec (λ c. search needs) add-result returns)
