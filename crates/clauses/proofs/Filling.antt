@@ -18,7 +18,8 @@ use Rattle.clauses.specs.declared.Shape.the-variants.{OneOf}
 abbrev pub literalAt : Clause → ℕ → ℤ
 literalAt c k = getD c k (pos 0)
 
-map-at : (f : ℕ → ℤ) (a n k : ℕ) → k < n → literalAt (map f (range a n)) k ≡ f (a + k)
+-- the k-th literal made of a range
+pub map-at : (f : ℕ → ℤ) (a n k : ℕ) → k < n → literalAt (map f (range a n)) k ≡ f (a + k)
 map-at f a zero k h = absurd (omega arith)
 map-at f a (suc n) zero h = ap f (omega arith)
 map-at f a (suc n) (suc k) h = map-at f (suc a) n k (omega arith) ∙ ap f (omega arith)

@@ -37,7 +37,8 @@ numberOf (NotBoth (House h d) i j) =
     (cond (ltb h 18) (81 + 36 * (9 * (h - 9) + d) + pairIndex i j)
     (cond (eqb (i / 3) (j / 3)) (5913 + 9 * (9 * d + (h - 18)) + rowIndex i j) (6642 + 27 * (9 * d + (h - 18)) + rowsIndex i j)))
 
-abbrev sameGroup : Group → Group → Bool
+-- tests of equality
+abbrev pub sameGroup : Group → Group → Bool
 sameGroup (Cell c) (Cell b) = eqb c b
 sameGroup (House h d) (House k e) = eqb h k && eqb d e
 sameGroup (Cell c) (House h d) = false
@@ -49,7 +50,7 @@ sameShape (NotBoth g i j) (NotBoth f x y) = sameGroup g f && (eqb i x && eqb j y
 sameShape (OneOf g) (NotBoth f x y) = false
 sameShape (NotBoth g i j) (OneOf f) = false
 
-group-eq : (g f : Group) → T (sameGroup g f) → g ≡ f
+pub group-eq : (g f : Group) → T (sameGroup g f) → g ≡ f
 group-eq (Cell c) (Cell b) t = ap Cell (eqb→eq c b t)
 group-eq (House h d) (House k e) t = let w = and-iff (eqb h k) (eqb d e) .0 t in cc (eqb→eq h k (w .0), eqb→eq d e (w .1))
 group-eq (Cell c) (House h d) t = absurd t

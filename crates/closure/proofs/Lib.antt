@@ -1,0 +1,11 @@
+pub mod Sets
+pub mod Closure
+pub mod Tally
+pub mod Marks
+pub mod Clauses
+pub mod Propagation
+pub mod Job
+pub mod Order
+pub mod Compare
+pub mod Solved
+pub mod ClauseSets

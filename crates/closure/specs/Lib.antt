@@ -1,0 +1,5 @@
+pub mod Sets
+pub mod Closure
+pub mod Marks
+pub mod Propagation
+pub mod Job
