@@ -103,6 +103,15 @@ impl Random {
         order
     }
 
+    /// Orders of four kinds: the default, digit by digit, row by row with the negative literals of a
+    /// row after its positive ones, and shuffled.
+    pub fn orders(&mut self) -> [Vec<i16>; 4] {
+        let [mut by_digit, mut by_row] = [default_order(), default_order()];
+        by_digit.sort_by_key(|literal| (literal.abs() - 1) % 9);
+        by_row.sort_by_key(|literal| ((literal.abs() - 1) / 81, *literal < 0));
+        [default_order(), by_digit, by_row, self.order()]
+    }
+
     /// A completion of a named grid with its digits, rows and columns permuted.
     pub fn full(&mut self) -> Grid {
         let base = &BASES[self.below(BASES.len())];

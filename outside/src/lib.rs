@@ -15,7 +15,8 @@
 //! What the comparisons need:
 //! - [`dimacs`]: a clause set with a grid's givens, for public solvers;
 //! - [`cases`]: named grids and generated ones;
-//! - [`packed`], [`plain`]: the C functions' answer word, and a fast clause call for the bench;
+//! - [`packed`]: the C functions' answer word;
+//! - [`plain`], [`plain_job`]: a fast clause call and a fast job call for the bench;
 //! - `proved` (feature `proved`): the proved library's C functions.
 
 pub mod batch;
@@ -31,6 +32,7 @@ pub mod listing;
 pub mod order;
 pub mod packed;
 pub mod plain;
+pub mod plain_job;
 #[cfg(feature = "proved")]
 pub mod proved;
 pub mod refusal;

@@ -1,7 +1,7 @@
 //! The proved library's C functions behind safe calls. A slice passes as its pointer and its length
 //! in elements; the functions read and write nothing outside the slices that they are lent.
 
-use crate::packed::unpack;
+use crate::packed::{unpack, unpack_job};
 use crate::refusal::Refusal;
 
 #[link(name = "host", kind = "static")]
@@ -14,6 +14,16 @@ extern "C" {
         candidate: *const u8,
         candidate_length: usize,
     ) -> u8;
+    fn grader_job(
+        grid: *const u8,
+        grid_length: usize,
+        technique: u32,
+        order: *const i16,
+        order_length: usize,
+        ceiling: u32,
+        marks: *mut u8,
+        marks_length: usize,
+    ) -> u64;
 }
 
 pub fn check_grid(grid: &[u8]) -> Result<u8, Refusal> {
@@ -40,4 +50,26 @@ pub fn is_completion(grid: &[u8], candidate: &[u8]) -> u8 {
             candidate.len(),
         )
     }
+}
+
+/// The outcome's number and the count.
+pub fn job(
+    grid: &[u8],
+    technique: u32,
+    order: &[i16],
+    ceiling: u32,
+    marks: &mut [u8],
+) -> Result<(u8, u32), Refusal> {
+    unpack_job(unsafe {
+        grader_job(
+            grid.as_ptr(),
+            grid.len(),
+            technique,
+            order.as_ptr(),
+            order.len(),
+            ceiling,
+            marks.as_mut_ptr(),
+            marks.len(),
+        )
+    })
 }

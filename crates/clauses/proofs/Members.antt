@@ -15,6 +15,7 @@ use lib.ListN.{length, getD}
 use borrow.Author.Tests.{le-leb}
 use Rattle.grid.specs.Grid.{byte, isDigit, digitOf}
 use Rattle.grid.proofs.Completion.{digit-iff}
+use Rattle.clauses.specs.Literal.{Literal}
 use Rattle.clauses.specs.Clauses.{Clause, range, over, clausesOf}
 use Rattle.clauses.specs.Models.{Truth, holds, givenAt, givens}
 use Rattle.clauses.specs.Shape.{IsShape, InSet, clauseOf, shapeOf, boxOf, rowsPair}
@@ -99,9 +100,18 @@ givens-iff g l = let o = over-iff 0 81 (λ c. givenAt (isDigit (byte g c)) c (di
   λ w. o .1 (w .0, omega arith, w .1, given-iff (byte g (w .0)) (w .0) l .1 (w .2, w .3)),
 )
 
-given-variable : (c x : ℕ) → T (isDigit x) → 9 * c + digitOf x ≡ suc (9 * c + (x - 49))
+-- the variable of a cell's digit
+pub given-variable : (c x : ℕ) → T (isDigit x) → 9 * c + digitOf x ≡ suc (9 * c + (x - 49))
 unfolding digitOf isDigit
 given-variable c x t = let h = digit-iff x .0 t in rw (le-leb 49 x (h .0), le-leb x 57 (h .1)) (omega arith)
+
+-- they are literals
+pub given-literal : (g : List ℕ) (l : ℤ) → List·Memᴰ l (givens g) → Literal l
+given-literal g l i =
+    let w = givens-iff g l .0 i in
+    let d = digit-iff (byte g (w .0)) .0 (w .2) in
+    let bound : 9 * w .0 + (byte g (w .0) - 49) < 729 = omega (arith, w .1) in
+    subst Literal (sym (w .3 ∙ ap pos (given-variable (w .0) (byte g (w .0)) (w .2)))) bound
 
 -- the givens are true where each cell that has a digit has the variable of it true
 pub givens-true-iff : (A : Truth) (g : List ℕ)

@@ -149,7 +149,7 @@ module _ (m : List ℕ) where
       let w = place-of l v in
       w .2 m .0 (full .1 (omega (arith, decided-tally 729 m, tally-true 729)) (w .0) (w .1) tt)
 
-zeros : (n k : ℕ) → getD {A = ℕ} (replicate n 0) k 0 ≡ 0
+pub zeros : (n k : ℕ) → getD {A = ℕ} (replicate n 0) k 0 ≡ 0
 zeros zero k = refl
 zeros (suc n) zero = refl
 zeros (suc n) (suc k) = zeros n k

@@ -23,7 +23,7 @@ fn is_grid(grid: &[u8]) -> bool
 }
 
 // A digit `1` to `9`.
-fn is_digit(b: u8) -> bool
+pub fn is_digit(b: u8) -> bool
     ensures { λ r. ⌜ r ≡ isDigit b ⌝ }
 {
     b'1' <= b && b <= b'9'

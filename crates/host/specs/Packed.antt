@@ -1,5 +1,5 @@
 -- An answer as one 64-bit number, since an exported call returns no more: bits 56 to 63 hold a refusal's number, 0 for none; bits 48 to
--- 55 a small result; bits 0 to 47 a place.
+-- 55 a small result; bits 0 to 47 a place or a count.
 use mathlib.Core.List.{List}
 use Prim.Native.Nat.{ℕ, _+_, _*_, _%_, _^_}
 use lib.IntN.{ℤ}
@@ -9,6 +9,9 @@ use Rattle.grid.specs.declared.Checked.the-variants as checked
 use Rattle.clauses.specs.Call.{Given}
 use Rattle.clauses.specs.declared.ClauseAnswer.{ClauseAnswer}
 use Rattle.clauses.specs.declared.ClauseAnswer.the-variants as answer
+use Rattle.inference.specs.Call as job
+use Rattle.inference.specs.declared.job.JobAnswer.{JobAnswer}
+use Rattle.inference.specs.declared.job.JobAnswer.the-variants as ran
 
 -- a refusal: its number and its place
 abbrev pub packedRefusal : Refusal → ℕ
@@ -31,3 +34,12 @@ packedClause (answer.Refused r) = packedRefusal r
 -- with the lent literals at its return
 abbrev pub packedGiven : Given → ℕ × List ℤ
 packedGiven g = (packedClause (g .0), g .1)
+
+-- what the job call answers: the outcome's number and the count
+abbrev pub packedJob : JobAnswer → ℕ
+packedJob (ran.Finished o n) = packedResult (job.outcomeNumber o) + n % 2 ^ 48
+packedJob (ran.Refused r) = packedRefusal r
+
+-- with the lent marks at its return
+abbrev pub packedRun : job.Given → ℕ × List ℕ
+packedRun g = (packedJob (g .0), g .1)

@@ -3,14 +3,18 @@
 //     grader_check_grid       the keyer's check of a grid
 //     grader_is_completion    the test of a legal completion
 //     grader_clause           the clause call
+//     grader_job              the job call
 use clauses::ClauseAnswer;
 use grid::Checked;
 use grid::Refusal;
+use inference::job::JobAnswer;
+use inference::job::Outcome;
 ghost use mathlib.Core.Path.{_≡_};
 ghost use Rattle.grid.specs.Completion.{isCompletion};
 ghost use Rattle.grid.specs.Refusals.{gridCheck};
 ghost use Rattle.clauses.specs.Call.{clauseCall};
-ghost use Rattle.host.specs.Packed.{packedRefusal, packedResult, packedCheck, packedClause, packedGiven};
+ghost use Rattle.inference.specs.Call.{outcomeNumber, jobCall};
+ghost use Rattle.host.specs.Packed.{packedRefusal, packedResult, packedCheck, packedClause, packedGiven, packedJob, packedRun};
 
 const RESULT: u64 = 281474976710656;
 
@@ -46,6 +50,26 @@ fn pack_clause(a: ClauseAnswer) -> u64
     }
 }
 
+fn outcome_number(o: Outcome) -> usize
+    ensures { λ r. ⌜ r ≡ outcomeNumber o ⌝ }
+{
+    match o {
+        Outcome::Solved => 1,
+        Outcome::Open => 2,
+        Outcome::Stopped => 3,
+        Outcome::Contradiction => 4,
+    }
+}
+
+fn pack_job(a: JobAnswer) -> u64
+    ensures { λ p. ⌜ p ≡ packedJob a ⌝ }
+{
+    match a {
+        JobAnswer::Finished(o, n) => pack_result(outcome_number(o)) + (n as u64) % RESULT,
+        JobAnswer::Refused(r) => pack_refusal(r),
+    }
+}
+
 #[no_mangle]
 pub extern "C" fn grader_check_grid(grid: &[u8]) -> u64
     ensures { λ p. ⌜ p ≡ packedCheck (gridCheck (now (grid .entry))) ⌝ }
@@ -66,4 +90,18 @@ pub extern "C" fn grader_clause(set: u32, number: u32, literals: &mut [i16]) -> 
 {
     let answer = clauses::clause(set, number, literals);
     pack_clause(answer)
+}
+
+#[no_mangle]
+pub extern "C" fn grader_job(
+    grid: &[u8],
+    technique: u32,
+    order: &[i16],
+    ceiling: u32,
+    marks: &mut [u8],
+) -> u64
+    ensures { λ p. ⌜ (p, now (marks .exit)) ≡ packedRun (jobCall (now (grid .entry)) technique (now (order .entry)) ceiling (now (marks .entry))) ⌝ }
+{
+    let answer = inference::job::job(grid, technique, order, ceiling, marks);
+    pack_job(answer)
 }

@@ -1,14 +1,18 @@
-//! Compares the proved library with the reference: the clause call, the grid check and the
-//! completion test, each on well-formed and on broken input. It prints the number of cases of each
-//! kind and the first difference with its input; the exit status is 1 at any difference.
+//! Compares the proved library with the reference: the clause call, the grid check, the completion
+//! test and the job call, each on well-formed and on broken input. A file of grids, one a line, may
+//! be named as the argument; jobs run on them too. It prints the number of cases of each kind and
+//! the first difference with its input; the exit status is 1 at any difference.
 
-use reference::cases::{named, Random};
+mod jobs;
+
+use reference::cases::{named, Grid, Random};
 use reference::clauses;
 use reference::grid::{self, CELLS};
 use reference::proved;
 use reference::search::smallest_two;
 use std::fmt::Debug;
 use std::process::ExitCode;
+use std::{env, fs};
 
 #[derive(Default)]
 struct Tally {
@@ -35,21 +39,43 @@ impl Tally {
     }
 }
 
-fn main() -> ExitCode {
-    let tallies = [clause_calls(), grid_checks(), completion_tests()];
-    let [clauses, grids, completions] = [0, 1, 2].map(|kind| tallies[kind].cases);
+fn main() -> Result<ExitCode, String> {
+    let lent = env::args().nth(1).map_or(Ok(Vec::new()), read_grids)?;
+    let jobs = jobs::jobs(&lent);
+    let tallies = [
+        clause_calls(),
+        grid_checks(),
+        completion_tests(),
+        jobs.tally,
+    ];
+    let [clauses, grids, completions, jobs_compared] = [0, 1, 2, 3].map(|kind| tallies[kind].cases);
     let differences: usize = tallies.iter().map(|tally| tally.differences).sum();
     println!(
-        "compare: {clauses} clause calls, {grids} grid checks, {completions} completion tests; \
-         {differences} differences"
+        "compare: {clauses} clause calls, {grids} grid checks, {completions} completion tests, \
+         {jobs_compared} jobs with {} lent grids, by outcome or refusal {:?}; \
+         {differences} differences",
+        lent.len(),
+        jobs.answers
     );
-    match tallies.into_iter().find_map(|tally| tally.first) {
+    Ok(match tallies.into_iter().find_map(|tally| tally.first) {
         None => ExitCode::SUCCESS,
         Some(first) => {
             println!("first difference: {first}");
             ExitCode::FAILURE
         }
-    }
+    })
+}
+
+/// The grids of a file, one a line.
+fn read_grids(path: String) -> Result<Vec<Grid>, String> {
+    let text = fs::read(&path).map_err(|error| format!("{path}: {error}"))?;
+    let lines = text.strip_suffix(b"\n").unwrap_or(&text);
+    let grids = lines.split(|&byte| byte == b'\n').map(|line| {
+        let grid = Grid::try_from(line).ok();
+        grid.filter(|grid| grid::check(grid).is_ok())
+            .ok_or_else(|| format!("{path}: no grid: {}", shown(line)))
+    });
+    grids.collect()
 }
 
 const SETS: [u32; 11] = [0, 1, 2, 3, 4, 255, 256, 257, 258, 65_537, u32::MAX];
@@ -101,8 +127,7 @@ fn clause_calls() -> Tally {
     tally
 }
 
-/// One clause call over each fill. The buffers are compared with their guards, at the first element
-/// that differs; its place counts from the start of the lent part.
+/// One clause call over each fill. The buffers are compared with their guards.
 fn clause_call(tally: &mut Tally, set: u32, number: u32, length: usize) {
     for fill in FILLS {
         let lent = GUARD..GUARD + length;
@@ -110,15 +135,19 @@ fn clause_call(tally: &mut Tally, set: u32, number: u32, length: usize) {
         let mut theirs = ours.clone();
         let reference = clauses::clause(set, number, &mut ours[lent.clone()]);
         let proved = proved::clause(set, number, &mut theirs[lent]);
-        let differing = (0..ours.len()).find(|&place| ours[place] != theirs[place]);
-        let element = |buffer: &[i16]| {
-            differing.map(|place| (place as isize - GUARD as isize, buffer[place]))
-        };
-        let answers = [(proved, element(&theirs)), (reference, element(&ours))];
-        tally.case(answers[0], answers[1], || {
+        let [our, their] = first_differing([&ours, &theirs]);
+        tally.case((proved, their), (reference, our), || {
             format!("clause call, set {set}, number {number}, {length} literals of {fill}")
         });
     }
+}
+
+/// The elements at which two lent buffers with their guards first differ, each with its place from
+/// the start of the lent part; none if the buffers are equal.
+fn first_differing<T: Copy + PartialEq>(buffers: [&[T]; 2]) -> [Option<(isize, T)>; 2] {
+    let [ours, theirs] = buffers;
+    let differing = (0..ours.len()).find(|&place| ours[place] != theirs[place]);
+    buffers.map(|buffer| differing.map(|place| (place as isize - GUARD as isize, buffer[place])))
 }
 
 fn grid_checks() -> Tally {

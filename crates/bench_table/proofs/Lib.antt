@@ -1,0 +1,5 @@
+mod QuickSweep
+mod Computed
+mod FullGrid
+mod Quiet
+mod Bench

@@ -1,0 +1,188 @@
+// The job call: the unit closure of a grid's givens, then trials, after the checks of what is lent.
+use crate::order::check_order;
+use crate::propagation::Reached;
+use crate::propagation::propagate;
+use crate::technique::Numbered;
+use crate::technique::Technique;
+use crate::trial::End;
+use crate::trial::Ended;
+use crate::trial::State;
+use crate::trial::passes;
+use clauses::ClauseSet;
+use grid::Checked;
+use grid::Refusal;
+use grid::check_grid;
+use grid::legal::is_digit;
+ghost use mathlib.Core.Path.{_≡_};
+ghost use Prim.Native.Nat.{_+_, _*_, _<_};
+ghost use lib.ListN.{length};
+ghost use Rattle.grid.specs.Grid.{isDigit, digitOf};
+ghost use Rattle.grid.specs.Refusals.{refusal};
+ghost use Rattle.clauses.specs.Clauses.{clausesOf};
+ghost use Rattle.clauses.specs.Models.{givens};
+ghost use Rattle.closure.specs.Marks.{blank};
+ghost use Rattle.closure.specs.Propagation.{bind, join, unitClosure};
+ghost use Rattle.closure.specs.Job.{jobEnd};
+ghost use Rattle.inference.specs.Call.{finished, jobCall};
+ghost use Rattle.inference.specs.Steps.{answerOf, ClosedOk, endOf, Literals, OpenFrom, withGiven};
+ghost use Rattle.inference.specs.Trail.{Ready, Moved};
+ghost use Rattle.inference.specs.declared.job.JobAnswer.the-variants.{Refused};
+
+// How a job ends.
+pub enum Outcome {
+    Solved,
+    Open,
+    Stopped,
+    Contradiction,
+}
+
+// The answer of a job call: the outcome with the number of trials made, or a refusal.
+pub enum JobAnswer {
+    Finished(Outcome, u32),
+    Refused(Refusal),
+}
+
+// A given is marked and put on the trail.
+fn mark_given(
+    marks: &mut [u8; 729],
+    trail: &mut [u16; 729],
+    tail: usize,
+    cell: usize,
+    byte: u8,
+) -> usize
+    requires { ⌜ Ready (now marks) (now trail) tail × (cell < 81) × OpenFrom (9 * cell) (now marks) ⌝ }
+    ensures { λ r. ⌜ Moved (now (marks .entry)) (now (trail .entry)) tail (now (marks .exit)) (now (trail .exit)) r
+        × (now (marks .exit) ≡ withGiven (isDigit byte) (now (marks .entry)) cell (digitOf byte)) × OpenFrom (9 * (cell + 1)) (now (marks .exit)) ⌝ }
+{
+    if is_digit(byte) {
+        let p = 9 * cell + ((byte - 49) as usize);
+        marks[p] = 1;
+        trail[tail] = p as u16;
+        tail + 1
+    } else {
+        tail
+    }
+}
+
+// The unit closure of a grid's givens.
+fn begin(marks: &mut [u8; 729], set: ClauseSet, grid: &[u8]) -> Reached
+    requires { ⌜ (now marks ≡ blank) × (length (now grid) ≡ 81) ⌝ }
+    ensures { λ r. ⌜ (answerOf r (now (marks .exit)) ≡ bind (join blank (givens (now (grid .entry)))) (unitClosure (clausesOf set)))
+        × ClosedOk set blank (now (marks .exit)) r ⌝ }
+{
+    let mut trail = [0u16; 729];
+    let mut tail = 0;
+    let mut i = 0;
+    while i < 81 {
+        tail = mark_given(marks, &mut trail, tail, i, grid[i]);
+        i += 1;
+    }
+    propagate(marks, &mut trail, tail, set)
+}
+
+// A job that is not refused.
+fn run(technique: Technique, grid: &[u8], order: &[i16], ceiling: u32) -> Ended
+    requires { ⌜ (length (now grid) ≡ 81) × Literals (now order) ⌝ }
+    ensures { λ r. ⌜ endOf (r .end) (r .state .marks)
+        ≡ jobEnd (clausesOf (technique .set)) ceiling (technique .trials) (now (order .entry)) (givens (now (grid .entry))) ⌝ }
+{
+    let set = technique.set;
+    let mut marks = [0u8; 729];
+    let begun = begin(&mut marks, set, grid);
+    match begun {
+        Reached::Clash => Ended {
+            end: End::Contradiction(0),
+            state: State { marks, decided: 0 },
+        },
+        Reached::Tail(decided) => {
+            let state = State { marks, decided };
+            if decided == 729 {
+                return Ended {
+                    end: End::Solved(0),
+                    state,
+                };
+            }
+            if technique.trials {
+                passes(state, set, order, ceiling)
+            } else {
+                Ended {
+                    end: End::Open(0),
+                    state,
+                }
+            }
+        }
+    }
+}
+
+// Copies marks out.
+fn copy_out(from: [u8; 729], marks: &mut [u8])
+    requires { ⌜ length (now marks) ≡ 729 ⌝ }
+    ensures { λ _. ⌜ now (marks .exit) ≡ from ⌝ }
+{
+    let mut i = 0;
+    while i < 729 {
+        marks[i] = from[i];
+        i += 1;
+    }
+}
+
+// The answer of a job at its end, and the marks that it leaves.
+fn finish(ended: Ended, marks: &mut [u8]) -> JobAnswer
+    requires { ⌜ length (now marks) ≡ 729 ⌝ }
+    ensures { λ r. ⌜ (r, now (marks .exit)) ≡ finished (endOf (ended .end) (ended .state .marks)) ⌝ }
+{
+    let end = ended.end;
+    let state = ended.state;
+    let left = state.marks;
+    match end {
+        End::Solved(n) => {
+            copy_out(left, marks);
+            JobAnswer::Finished(Outcome::Solved, n)
+        }
+        End::Open(n) => {
+            copy_out(left, marks);
+            JobAnswer::Finished(Outcome::Open, n)
+        }
+        End::Stopped(n) => {
+            copy_out(left, marks);
+            JobAnswer::Finished(Outcome::Stopped, n)
+        }
+        End::Contradiction(n) => {
+            copy_out([0u8; 729], marks);
+            JobAnswer::Finished(Outcome::Contradiction, n)
+        }
+    }
+}
+
+// A refusal at a place.
+fn refused(number: u32) -> JobAnswer
+    ensures { λ r. ⌜ r ≡ Refused (refusal number 0) ⌝ }
+{
+    JobAnswer::Refused(Refusal { number, place: 0 })
+}
+
+// The job call. Refusals: 41 marks not 729; 11 and 12 by the grid; 21 no such technique; 22 to 24 by the order.
+pub fn job(grid: &[u8], technique: u32, order: &[i16], ceiling: u32, marks: &mut [u8]) -> JobAnswer
+    ensures { λ r. ⌜ (r, now (marks .exit)) ≡ jobCall (now (grid .entry)) technique (now (order .entry)) ceiling (now (marks .entry)) ⌝ }
+{
+    if marks.len() != 729 {
+        return refused(41);
+    }
+    let keyed = check_grid(grid);
+    match keyed {
+        Checked::Refused(refusal) => JobAnswer::Refused(refusal),
+        Checked::Accepted => {
+            let named = Technique::numbered(technique);
+            match named {
+                Numbered::Unknown => refused(21),
+                Numbered::Known(known) => {
+                    let ordered = check_order(order);
+                    match ordered {
+                        Checked::Refused(refusal) => JobAnswer::Refused(refusal),
+                        Checked::Accepted => finish(run(known, grid, order, ceiling), marks),
+                    }
+                }
+            }
+        }
+    }
+}
