@@ -101,11 +101,11 @@ impl Work {
                 && self.strike(marks, Kind::Box, p)
                 && (!extended || self.strike(marks, Kind::Cell, p))
         } else {
-            self.last(marks, Kind::Cell, p)
-                && (!extended
-                    || self.last(marks, Kind::Row, p)
-                        && self.last(marks, Kind::Column, p)
-                        && self.last(marks, Kind::Box, p))
+            (!extended
+                || self.last(marks, Kind::Row, p)
+                    && self.last(marks, Kind::Column, p)
+                    && self.last(marks, Kind::Box, p))
+                && self.last(marks, Kind::Cell, p)
         }
     }
 

@@ -13,6 +13,7 @@ use Rattle.grid.specs.Counting.{total, all}
 use Rattle.grid.specs.Grid.{byte, isDigit}
 use Rattle.grid.specs.House.{cellOf}
 use Rattle.grid.specs.Completion.{times, isLegal}
+use Rattle.grid.specs.Examples.{G}
 use Rattle.grid.proofs.Counting.{all-iff}
 use Rattle.grid.proofs.Completion.{legal-iff}
 use Rattle.clauses.specs.Literal.{Literal}
@@ -27,7 +28,7 @@ use Rattle.closure.specs.Job.{End, opened, stopped, jobEnd, outcomeOf, countOf,
 use Rattle.closure.proofs.ClauseSets.{well-formed}
 use Rattle.inference.specs.Order.{defaultOrder}
 use Rattle.inference.proofs.Orders.{default-long}
-use Rattle.bench_table.specs.Bench.{Row, endOf, Expected, Holds, Every, dots, G, blankRow, blankRows, fullRows, table}
+use Rattle.bench_table.specs.Bench.{Row, endOf, Expected, Holds, Every, dots, blankRow, blankRows, fullRows, table}
 use Rattle.bench_table.proofs.Computed.{none, _also_, corner-rows, ones-rows, fives-rows, no-nine-rows}
 use Rattle.bench_table.proofs.FullGrid.{full-solved}
 use Rattle.bench_table.proofs.Quiet.{Possible, quiet-job}

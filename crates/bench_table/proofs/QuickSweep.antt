@@ -1,7 +1,7 @@
 -- Quick sweeps, for computed rows. A clause that begins with two negative literals of variables that are not true gives
 -- nothing, and the true variables of a sparse grid are few; so a sweep that knows them passes over nearly all clauses, with the same answer.
 -- Assumes nothing.
-use mathlib.Core.Path.{_≡_, refl, sym}
+use mathlib.Core.Path.{_≡_, refl}
 use mathlib.Core.Bool.{Bool, true, false, not, _&&_, _||_}
 use mathlib.Core.List.{List, [], _∷_}
 use mathlib.Core.Logic.{_⊎_, inl, inr, ⊎-elim}
@@ -10,7 +10,7 @@ use native.Mathlib.Omega.{arith}
 use lib.Dec.{T, eqb, T-not}
 use lib.IntN.{ℤ, pos, negsuc, negℤ}
 use lib.ListN.{getD}
-use Rattle.grid.proofs.Table.{and-iff, refuted}
+use Rattle.grid.proofs.Table.{and-iff, false-is}
 use Rattle.grid.proofs.Completion.{eq-iff}
 use Rattle.clauses.specs.Clauses.{Clause}
 use Rattle.closure.specs.Marks.{has, decided}
@@ -76,7 +76,7 @@ knows m k t = true-among 0 k k (omega arith) m t
 module _ (ts m : List ℕ) (all : Knows ts m) where
   free-remains : (l : ℤ) → T (free ts l) → has m (negℤ l) ≡ false
   free-remains (pos v) t = absurd t
-  free-remains (negsuc k) t = sym (refuted (has m (pos (suc k))) (λ u. T-not (among k ts) t (all k u)))
+  free-remains (negsuc k) t = false-is (has m (pos (suc k))) (λ u. T-not (among k ts) t (all k u))
 
   -- a clause that is passed over gives nothing
   idle-gives-nothing : (c : Clause) → T (isIdle ts c) → unit m (remaining m c) ≡ closed m

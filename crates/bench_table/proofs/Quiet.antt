@@ -2,7 +2,7 @@
 -- literal is false in some model; no trial fails, since what follows from the literal is true with it; and so the state stays blank, each
 -- literal of the order costs one trial, and the job is open at the end of its one pass or stops at the ceiling.
 -- Assumes nothing.
-use mathlib.Core.Path.{_≡_, refl, ap, sym}
+use mathlib.Core.Path.{_≡_, refl, ap}
 use mathlib.Core.Logic.{⊎-elim}
 use mathlib.Core.Bool.{Bool, true, false, cond}
 use mathlib.Core.List.{List, [], _∷_, List·Memᴰ, List·Memᴰ·head, List·Memᴰ·tail}
@@ -14,7 +14,7 @@ use borrow.Author.Tests.{eq-eqb, ne-eqb, le-leb, lt-leb}
 use lib.Dec.{T, leb}
 use lib.IntN.{ℤ, pos, negℤ}
 use lib.ListN.{length}
-use Rattle.grid.proofs.Table.{refuted}
+use Rattle.grid.proofs.Table.{false-is}
 use Rattle.clauses.specs.Literal.{Literal}
 use Rattle.clauses.specs.Clauses.{Clause}
 use Rattle.clauses.specs.Models.{Truth, holds, Satisfies}
@@ -35,7 +35,7 @@ pub record Possible (cs : List Clause) (l : ℤ) : Type 0 where
   pub holds : T (holds truth l)
 
 undecided : (l : ℤ) → isDecided blank l ≡ false
-undecided l = sym (refuted (isDecided blank l) (λ t. ⊎-elim (has-blank l) (has-blank (negℤ l)) (or-iff (has blank l) (has blank (negℤ l)) .0 t)))
+undecided l = false-is (isDecided blank l) (λ t. ⊎-elim (has-blank l) (has-blank (negℤ l)) (or-iff (has blank l) (has blank (negℤ l)) .0 t))
 
 module _ (cs : List Clause) (wf : WellFormed cs) (free : (l : ℤ) → Literal l → Possible cs l) where
   -- nothing follows from no givens

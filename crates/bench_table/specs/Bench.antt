@@ -4,6 +4,7 @@ use mathlib.Core.Bool.{Bool, true, false}
 use mathlib.Core.List.{List, [], _∷_, _++_, List·Memᴰ}
 use Prim.Native.Nat.{ℕ, _+_, _*_, _-_}
 use lib.ListN.{getD, replicate, set}
+use Rattle.grid.specs.Examples.{G}
 use Rattle.clauses.specs.Clauses.{clausesOf}
 use Rattle.clauses.specs.Models.{givens}
 use Rattle.clauses.specs.declared.ClauseSet.{ClauseSet}
@@ -77,19 +78,6 @@ fives = with 1 1 5 (with 1 2 5 dots)
 -- 1 to 8 in row 1, blank (1,9), 9 at (5,9)
 unfoldable pub noNine : List ℕ
 noNine = with 1 1 1 (with 1 2 2 (with 1 3 3 (with 1 4 4 (with 1 5 5 (with 1 6 6 (with 1 7 7 (with 1 8 8 (with 5 9 9 dots))))))))
-
--- document 01's full grid
-unfoldable pub G : List ℕ
-G =
-    49 ∷ 50 ∷ 51 ∷ 52 ∷ 53 ∷ 54 ∷ 55 ∷ 56 ∷ 57 ∷
-    52 ∷ 53 ∷ 54 ∷ 55 ∷ 56 ∷ 57 ∷ 49 ∷ 50 ∷ 51 ∷
-    55 ∷ 56 ∷ 57 ∷ 49 ∷ 50 ∷ 51 ∷ 52 ∷ 53 ∷ 54 ∷
-    50 ∷ 51 ∷ 49 ∷ 53 ∷ 54 ∷ 52 ∷ 56 ∷ 57 ∷ 55 ∷
-    53 ∷ 54 ∷ 52 ∷ 56 ∷ 57 ∷ 55 ∷ 50 ∷ 51 ∷ 49 ∷
-    56 ∷ 57 ∷ 55 ∷ 50 ∷ 51 ∷ 49 ∷ 53 ∷ 54 ∷ 52 ∷
-    51 ∷ 49 ∷ 50 ∷ 54 ∷ 52 ∷ 53 ∷ 57 ∷ 55 ∷ 56 ∷
-    54 ∷ 52 ∷ 53 ∷ 57 ∷ 55 ∷ 56 ∷ 51 ∷ 49 ∷ 50 ∷
-    57 ∷ 55 ∷ 56 ∷ 51 ∷ 49 ∷ 50 ∷ 54 ∷ 52 ∷ 53 ∷ []
 
 -- the blank grid under technique 3: the ceiling, the outcome, the count. A trial that succeeds leaves nothing behind.
 abbrev pub blankRow : ℕ → ℕ → ℕ → Row

@@ -1,13 +1,13 @@
 -- Literals as the code makes and reads them: 16-bit signed numbers, whose bits give back the number where it fits.
 -- Assumes nothing.
-use mathlib.Core.Path.{_≡_, refl, sym, ap, subst, _∙_}
+use mathlib.Core.Path.{_≡_, refl, sym, ap, _∙_}
 use mathlib.Core.Logic.{_↔_}
 use mathlib.Core.Bool.{Bool, true, false, _&&_}
 use Prim.Native.Nat.{ℕ, zero, suc, _+_, _^_, _<_}
 use native.Mathlib.Omega.{arith}
 use borrow.Author.Tests.{ltb-true}
 use lib.Dec.{T, leb, leb→le, le→leb}
-use lib.IntN.{ℤ, pos, negsuc, natAbs, negℤ, predℤ, _-ℤ_, _+ℤ_, +ℤ-idl, predℤ-+ℤ}
+use lib.IntN.{ℤ, pos, negsuc, natAbs, negℤ, predℤ, _-ℤ_, +ℤ-idl, predℤ-+ℤ}
 use lib.Signed.{mag, nonNeg, ltZ}
 use mir.Syntax.{w16}
 use mir.Val.{SFits, hbits, toZ, ofZ}
@@ -27,13 +27,14 @@ returned l h = read l (record { sfits = h })
 pub test-of : (f : ℤ → Bool) (b : Bool) (l : ℤ) → SFits w16 l → f (toZ w16 (ofZ w16 l)) ≡ b → f l ≡ b
 test-of f b l fits e = ap f (sym (read l fits)) ∙ e
 
--- 1 + k is the positive literal at place k, and -1 - k the negative one
 module _ (k : ℕ) (h : k < 729) where
-  pub positive-is : pos 1 +ℤ toZ w16 k ≡ pos (suc k)
-  positive-is = ap (λ z. pos 1 +ℤ z) (toZ-pos w16 k (omega arith)) ∙ ap pos (omega arith)
+  -- a place, read back from its bits
+  pub place-is : toZ w16 k ≡ pos k
+  place-is = toZ-pos w16 k (omega arith)
 
+  -- -1 - k is the negative literal at place k
   pub negative-is : negsuc 0 -ℤ toZ w16 k ≡ negsuc k
-  negative-is = ap (λ z. negsuc 0 -ℤ z) (toZ-pos w16 k (omega arith)) ∙ below k
+  negative-is = ap (λ z. negsuc 0 -ℤ z) place-is ∙ below k
     where
       below : (k : ℕ) → negsuc 0 -ℤ pos k ≡ negsuc k
       below zero = refl

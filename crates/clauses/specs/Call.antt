@@ -7,7 +7,6 @@ use lib.IntN.{ℤ, pos}
 use lib.ListN.{length, getD, replicate}
 use Rattle.grid.specs.Refusals.{refusal}
 use Rattle.clauses.specs.Clauses.{Clause, clausesOf}
-use Rattle.clauses.specs.declared.ClauseSet.{ClauseSet}
 use Rattle.clauses.specs.declared.ClauseSet.the-variants.{Minimal, Extended}
 use Rattle.clauses.specs.declared.ClauseAnswer.{ClauseAnswer}
 use Rattle.clauses.specs.declared.ClauseAnswer.the-variants.{Length, Refused}

@@ -1,16 +1,15 @@
 -- The two clause sets are well formed. Each clause is that of a shape, whose literals are those of different places of one group.
 -- Assumes nothing.
-use mathlib.Core.Path.{_≡_, refl, sym, ap, subst, _∙_}
+use mathlib.Core.Path.{_≡_, refl, sym, subst, _∙_}
 use mathlib.Core.Logic.{⊎-elim}
-use mathlib.Core.List.{map, List·Memᴰ·head, List·Memᴰ·cases-cons, List·Memᴰ·eq-of-singleton, _∷_, []}
+use mathlib.Core.List.{List·Memᴰ·head, List·Memᴰ·cases-cons, List·Memᴰ·eq-of-singleton, _∷_, []}
 use Prim.Native.Nat.{ℕ, zero, suc, _+_, _<_}
 use native.Mathlib.Omega.{arith}
 use lib.IntN.{ℤ, pos, negsuc}
-use lib.ListN.{getD}
 use Rattle.grid.specs.House.{cellOf}
 use Rattle.grid.proofs.House.{row-cell, column-cell, box-cell, by-house, cell-below}
 use Rattle.clauses.specs.Literal.{Literal}
-use Rattle.clauses.specs.Clauses.{range, clausesOf}
+use Rattle.clauses.specs.Clauses.{clausesOf}
 use Rattle.clauses.specs.Shape.{placeOf, IsGroup, IsShape, clauseOf}
 use Rattle.clauses.specs.declared.ClauseSet.{ClauseSet}
 use Rattle.clauses.specs.declared.Group.{Group}

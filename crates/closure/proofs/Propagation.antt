@@ -10,19 +10,31 @@ use native.Mathlib.Omega.{arith}
 use borrow.Author.Tests.{eq-eqb, ne-eqb}
 use native.Mathlib.Decide.{ℕ-discrete}
 use lib.Dec.{T, eqb}
-use lib.IntN.{ℤ, negℤ, ℤ-discrete}
+use lib.IntN.{ℤ, pos, negsuc, negℤ, ℤ-discrete}
 use Rattle.clauses.specs.Literal.{Literal}
 use Rattle.clauses.specs.Clauses.{Clause}
 use Rattle.clauses.proofs.Signed.{negation-literal}
 use Rattle.closure.specs.Sets.{LiteralSet, Holds, Within, Least, IsLeast}
 use Rattle.closure.specs.Closure.{Contradiction, UnitClosed}
-use Rattle.closure.specs.Marks.{has, mark, decided, blank, IsMarks}
+use Rattle.closure.specs.Marks.{has, put, mark, decidedIn, decided, blank, IsMarks}
 use Rattle.closure.specs.Propagation.{Answer, clash, closed, bind, remaining, unit, sweep, again, sweeps, unitClosure, joined, join, Closes}
 use Rattle.closure.proofs.Sets.{least-given, least-mono, least-iff}
 use Rattle.closure.proofs.Closure.{contradiction-mono, contradiction-in, both-signs}
 use Rattle.closure.proofs.Marks.{has-single, has-consistent, has-mark, has-blank, decided-rises, decided-same, decided-bounded}
 use Rattle.closure.proofs.Marks.{is-marks-blank, is-marks-mark, marks-ext}
 use Rattle.closure.proofs.Clauses.{NoneTwice, WellFormed, once-head, once-tail}
+
+-- Cases that are computed, −v written `negsuc (v - 1)`: from +1 follow +2 and +3, although the clauses stand the other way round; a clause
+-- whose literals are all false is a contradiction,
+closures : (unitClosure ((negsuc 1 ∷ pos 3 ∷ []) ∷ (negsuc 0 ∷ pos 2 ∷ []) ∷ []) (1 ∷ []) ≡ closed (1 ∷ 1 ∷ 1 ∷ []))
+    × (unitClosure ((pos 1 ∷ pos 2 ∷ []) ∷ []) (2 ∷ 2 ∷ []) ≡ clash)
+unfolding unitClosure sweeps sweep remaining has mark put decidedIn
+closures = (refl, refl)
+
+-- and so are both signs of a variable.
+both-given : join [] (pos 1 ∷ negsuc 0 ∷ []) ≡ clash
+unfolding join has mark put
+both-given = refl
 
 -- every other literal of the clause has its negation in the set
 abbrev Struck : LiteralSet → Clause → ℤ → Type 0
@@ -155,7 +167,7 @@ module _ (cs : List Clause) (wf : WellFormed cs) (m : List ℕ) where
 
   closing : Reaches cs m (IsClosed cs) (unitClosure cs m)
   unfolding unitClosure
-  closing = sweeps-ok 730 m (record { holds = λ l p. p; within = λ l p. least-given (UnitClosed cs) l p; marks = λ i. i }) (omega arith)
+  closing = sweeps-ok _ m (record { holds = λ l p. p; within = λ l p. least-given (UnitClosed cs) l p; marks = λ i. i }) (omega arith)
 
   -- the unit closure of a state,
   pub unit-closure-ok : Closes (UnitClosed cs) (λ l. T (has m l)) (unitClosure cs m)

@@ -76,10 +76,9 @@ grid-iff g = go (eqb (length g) 81) (ltb (firstBad g) 81) refl refl
 module _ (g b : List ℕ) where
   kept : T (keepsGivens g b) ↔ ((c : ℕ) → c < 81 → T (isDigit (byte g c)) → byte b c ≡ byte g c)
   kept =
-      let a = all-iff 81 (λ c. not (isDigit (byte g c)) || eqb (byte b c) (byte g c)) in
       let k : (c : ℕ) → T (not (isDigit (byte g c)) || eqb (byte b c) (byte g c)) ↔ (T (isDigit (byte g c)) → T (eqb (byte b c) (byte g c))) = λ c. keep-iff (isDigit (byte g c)) (eqb (byte b c) (byte g c)) in
       let e : (c : ℕ) → T (eqb (byte b c) (byte g c)) ↔ (byte b c ≡ byte g c) = λ c. eq-iff (byte b c) (byte g c) in
-      ((λ t c h u. e c .0 (k c .0 (a .0 t c h) u)), λ f. a .1 (λ c h. k c .1 (λ u. e c .1 (f c h u))))
+      ((λ t c h u. e c .0 (k c .0 (all-iff _ _ .0 t c (omega arith)) u)), λ f. all-iff _ _ .1 (λ c h. k c .1 (λ u. e c .1 (f c h u))))
 
   once : T (eachOnce b) ↔ ((h d : ℕ) → h < 27 → d < 9 → times b h d ≡ 1)
   once =

@@ -10,7 +10,7 @@ use native.Mathlib.Omega.{arith}
 use native.Mathlib.Numerals.{add-one}
 use lib.Dec.{T}
 use Rattle.grid.specs.Counting.{tick, total, tally, all}
-use Rattle.grid.proofs.Table.{and-iff, refuted}
+use Rattle.grid.proofs.Table.{and-iff, false-is}
 
 -- a number below suc n is n or below n
 last : {P : ℕ → Type 0} (n : ℕ) → P n → ((k : ℕ) → k < n → P k) → (k : ℕ) → k < suc n → P k
@@ -46,7 +46,7 @@ module _ (p : ℕ → Bool) (n : ℕ) where
     passed-all s h = let e : k ≡ n = omega arith in subst (λ m. true ≡ all m p) e (sym (s .1))
 
     pub one-fails : k < n → p k ≡ false → false ≡ all n p
-    one-fails h e = refuted (all n p) (λ t. subst T e (all-iff n p .0 t k h))
+    one-fails h e = sym (false-is (all n p) (λ t. subst T e (all-iff n p .0 t k h)))
 
 pub total-same : (n : ℕ) (f g : ℕ → ℕ) → ((k : ℕ) → k < n → f k ≡ g k) → total n f ≡ total n g
 unfolding total

@@ -2,25 +2,12 @@
 -- Assumes nothing.
 use mathlib.Core.Path.{_≡_, refl}
 use mathlib.Core.Bool.{true, false}
-use mathlib.Core.List.{List, [], _∷_}
-use Prim.Native.Nat.{ℕ}
 use lib.ListN.{set, replicate}
 use Rattle.grid.specs.Counting.{total, all}
 use Rattle.grid.specs.Grid.{isDigit}
 use Rattle.grid.specs.House.{cellOf}
 use Rattle.grid.specs.Completion.{times, isLegal}
-
-G : List ℕ
-G =
-    49 ∷ 50 ∷ 51 ∷ 52 ∷ 53 ∷ 54 ∷ 55 ∷ 56 ∷ 57 ∷
-    52 ∷ 53 ∷ 54 ∷ 55 ∷ 56 ∷ 57 ∷ 49 ∷ 50 ∷ 51 ∷
-    55 ∷ 56 ∷ 57 ∷ 49 ∷ 50 ∷ 51 ∷ 52 ∷ 53 ∷ 54 ∷
-    50 ∷ 51 ∷ 49 ∷ 53 ∷ 54 ∷ 52 ∷ 56 ∷ 57 ∷ 55 ∷
-    53 ∷ 54 ∷ 52 ∷ 56 ∷ 57 ∷ 55 ∷ 50 ∷ 51 ∷ 49 ∷
-    56 ∷ 57 ∷ 55 ∷ 50 ∷ 51 ∷ 49 ∷ 53 ∷ 54 ∷ 52 ∷
-    51 ∷ 49 ∷ 50 ∷ 54 ∷ 52 ∷ 53 ∷ 57 ∷ 55 ∷ 56 ∷
-    54 ∷ 52 ∷ 53 ∷ 57 ∷ 55 ∷ 56 ∷ 51 ∷ 49 ∷ 50 ∷
-    57 ∷ 55 ∷ 56 ∷ 51 ∷ 49 ∷ 50 ∷ 54 ∷ 52 ∷ 53 ∷ []
+use Rattle.grid.specs.Examples.{G}
 
 -- G completes the blank grid, itself, and itself with a dot in its first cell,
 completes : (isLegal (replicate 81 46) G ≡ true) × (isLegal G G ≡ true) × (isLegal (set G 0 46) G ≡ true)

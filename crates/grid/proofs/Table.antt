@@ -13,13 +13,13 @@ pub and-iff : (a b : Bool) → T (a && b) ↔ (T a × T b)
 and-iff true b = ((λ x. (tt, x)), λ x. x .1)
 and-iff false b = ((λ x. absurd x), λ x. x .0)
 
-pub shown : (b : Bool) → T b → true ≡ b
-shown true t = refl
-shown false t = absurd t
+pub true-is : (b : Bool) → T b → b ≡ true
+true-is true t = refl
+true-is false t = absurd t
 
-pub refuted : (b : Bool) → (T b → ⊥) → false ≡ b
-refuted true n = absurd (n tt)
-refuted false n = refl
+pub false-is : (b : Bool) → (T b → ⊥) → b ≡ false
+false-is true n = absurd (n tt)
+false-is false n = refl
 
 module _ {A : Type 0} where
   -- the test passes at each entry and its place, counted from i

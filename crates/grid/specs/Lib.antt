@@ -3,3 +3,4 @@ pub mod Grid
 pub mod House
 pub mod Completion
 pub mod Refusals
+pub mod Examples

@@ -24,7 +24,7 @@ use Rattle.inference.specs.Trail.{Ready, Moved}
 use Rattle.inference.specs.declared.propagation.Reached.{Reached}
 use Rattle.inference.specs.declared.propagation.Reached.the-variants.{Tail}
 use Rattle.inference.proofs.Moves.{mark-set, moved-mark, room}
-use Rattle.inference.proofs.Trying.{true-is, false-is}
+use Rattle.grid.proofs.Table.{true-is, false-is}
 
 -- another place of nine
 abbrev other : ℕ → ℕ

@@ -3,7 +3,7 @@
 -- Assumes nothing.
 use mathlib.Core.Path.{_≡_, refl, ap, sym, _∙_}
 use mathlib.Core.Bool.{Bool, _&&_}
-use Prim.Native.Nat.{ℕ, _+_, _*_, _/_, _%_, _<_}
+use Prim.Native.Nat.{ℕ, _+_, _*_, _-_, _/_, _%_, _<_}
 use native.Mathlib.Omega.{arith}
 use lib.Dec.{T, eqb, ltb, eqb→eq, ltb→lt}
 use Rattle.grid.specs.Counting.{all}
@@ -52,9 +52,22 @@ pub column-place : (p k : ℕ) → placeOf (groupAt Column p) k ≡ 81 * k + p %
 unfolding groupAt placeOf
 column-place p k = omega (arith, column-cell k (p / 9 % 9) (omega arith))
 
-pub box-place : (p k : ℕ) → p < 729 → placeOf (groupAt Box p) k ≡ 81 * (3 * (p / 243) + k / 3) + 9 * (3 * (p / 27 % 3) + k % 3) + p % 9
+-- the first place of a box, by how far p is beyond it: a test that is computed
+abbrev beyond : ℕ → ℕ
+beyond p = 81 * (p / 81 % 3) + 9 * (p / 9 % 3)
+
+abbrev boxFirst : ℕ → Bool
+boxFirst p = eqb (243 * (p / 243) + 27 * (p / 27 % 3) + p % 9 + beyond p) p
+
+box-first : T (all 729 boxFirst)
+unfolding all
+box-first = tt
+
+pub box-place : (p k : ℕ) → p < 729 → placeOf (groupAt Box p) k ≡ p - 81 * (p / 81 % 3) - 9 * (p / 9 % 3) + 81 * (k / 3) + 9 * (k % 3)
 unfolding groupAt placeOf
-box-place p k h = omega (arith, box-cell k (p / 243) (p / 27 % 3) (omega arith) (omega arith))
+box-place p k h =
+    let e = eqb→eq (243 * (p / 243) + 27 * (p / 27 % 3) + p % 9 + beyond p) p (all-iff 729 boxFirst .0 box-first p h) in
+    omega (arith, box-cell k (p / 243) (p / 27 % 3) (omega arith) (omega arith), e)
 
 -- place p stands at its index; the k-th place q is below 729, its group is the same, and its index is k
 abbrev here : Kind → ℕ → Bool

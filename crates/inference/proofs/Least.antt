@@ -1,9 +1,9 @@
 -- The least number that passes a test, as a scan of the numbers below n knows it: nothing before it passes, and it passes unless it is n.
 -- Assumes nothing.
-use mathlib.Core.Path.{_≡_, refl, sym, subst}
+use mathlib.Core.Path.{_≡_, refl}
 use mathlib.Core.Bool.{Bool, true, false}
 use Prim.Native.Nat.{ℕ, zero, suc, _+_, _≤_, _<_}
-use native.Mathlib.Decide.{ℕ-discrete, decLt}
+use native.Mathlib.Decide.{decLt}
 use native.Mathlib.Omega.{arith}
 use borrow.Author.Count.{below-more}
 use Rattle.inference.specs.Order.{leastFrom}
@@ -14,9 +14,6 @@ module _ (p : ℕ → Bool) where
     pub most : r ≤ n
     pub before : (j : ℕ) → j < r → p j ≡ false
     pub here : r < n → p r ≡ true
-
-  pub least-none : Least 0 0
-  least-none = record { most = omega arith; before = λ j b. absurd (omega arith); here = λ b. absurd (omega arith) }
 
   one-answer : (n r s : ℕ) → Least n r → Least n s → r < s → ⊥
   one-answer n r s x y b =
@@ -32,21 +29,32 @@ module _ (p : ℕ → Bool) where
       go (no a) (yes b) = absurd (one-answer n s r y x b)
       go (no a) (no b) = omega arith
 
-  -- one number more: the answer stays, unless it is the end and the number fails
-  module _ (n r : ℕ) (l : Least n r) where
-    pub least-stays : (r ≡ n → p n ≡ true) → Least (n + 1) r
-    least-stays t = record { most = omega (arith, l .most); before = l .before; here = λ b. go (ℕ-discrete r n) }
-      where
-        go : Dec (r ≡ n) → p r ≡ true
-        go (yes q) = subst (λ k. p k ≡ true) (sym q) (t q)
-        go (no q) = l .here (omega (arith, l .most))
+  -- a scan that has come to n: r is the least number below n that passes, or b, the end of the scan, where none does
+  pub record Scan (b n r : ℕ) : Type 0 where
+    pub most : r ≤ b
+    pub before : (j : ℕ) → j < n → j < r → p j ≡ false
+    pub here : r < b → (r < n) × (p r ≡ true)
 
-    pub least-moves : r ≡ n → p n ≡ false → Least (n + 1) (r + 1)
-    least-moves q e = record {
-      most = omega arith;
-      before = below-more (λ j. p j ≡ false) r (l .before) (subst (λ k. p k ≡ false) (sym q) e);
-      here = λ b. absurd (omega arith);
+  pub scan-none : (b : ℕ) → Scan b 0 b
+  scan-none b = record { most = omega arith; before = λ j h. absurd (omega arith); here = λ h. absurd (omega arith) }
+
+  pub scan-all : (b r : ℕ) → Scan b b r → Least b r
+  scan-all b r s = record { most = s .most; before = λ j h. s .before j (omega (arith, s .most)) h; here = λ h. s .here h .1 }
+
+  -- one number more, which fails; which passes, and is the first; or is not
+  module _ {b n r : ℕ} (s : Scan b n r) where
+    pub scan-fails : p n ≡ false → Scan b (n + 1) r
+    scan-fails e = record {
+      most = s .most;
+      before = λ j h k. below-more (λ i. i < r → p i ≡ false) n (s .before) (λ i. e) j h k;
+      here = λ h. let w = s .here h in (omega (arith, w .0), w .1);
     }
+
+    pub scan-first : n < b → n < r → p n ≡ true → Scan b (n + 1) n
+    scan-first h k e = record { most = omega arith; before = λ j i o. s .before j o (omega arith); here = λ i. (omega arith, e) }
+
+    pub scan-later : r ≤ n → Scan b (n + 1) r
+    scan-later k = record { most = s .most; before = λ j i o. s .before j (omega arith) o; here = λ h. let w = s .here h in (omega (arith, w .0), w .1) }
 
   -- `leastFrom` gives it, where what comes before its start fails
   from : (a n b : ℕ) → a + n ≡ b → ((j : ℕ) → j < a → p j ≡ false) → Least b (leastFrom a n p)

@@ -14,7 +14,7 @@ use lib.IntN.{ℤ, pos, negsuc}
 use lib.ListN.{length, getD}
 use Rattle.grid.specs.Counting.{all}
 use Rattle.grid.specs.declared.Checked.the-variants.{Accepted}
-use Rattle.grid.proofs.Table.{refuted}
+use Rattle.grid.proofs.Table.{false-is}
 use Rattle.grid.proofs.First.{all-pass}
 use Rattle.grid.proofs.Completion.{eq-iff, not-accepted}
 use Rattle.clauses.specs.Clauses.{range, over}
@@ -111,7 +111,7 @@ order-accepted o h = accepted-iff o .1 (
     no-repeat : Least (repeats o) (length o) (length o)
     no-repeat = record {
       most = omega arith;
-      before = λ j b. sym (refuted (repeats o j) (λ t. let w = repeats-iff o j .0 t in h .2 (w .0) j (w .1) (omega (arith, h .0)) (w .2)));
+      before = λ j b. false-is (repeats o j) (λ t. let w = repeats-iff o j .0 t in h .2 (w .0) j (w .1) (omega (arith, h .0)) (w .2));
       here = λ b. absurd (omega arith);
     }
 

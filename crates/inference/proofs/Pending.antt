@@ -19,10 +19,10 @@ use Rattle.closure.specs.Marks.{has}
 use Rattle.closure.proofs.Sets.{least-given, least-within}
 use Rattle.closure.proofs.Closure.{contradiction-mono}
 use Rattle.inference.specs.Groups.{groupAt, indexAt, PairKind, NineKind}
-use Rattle.inference.specs.Trail.{True, False, Listed, Moved, Struck, OtherIn, AllBut, AllFalse, Settled, PairOk, NineOk, Follows, Clashes, StruckAll, SettledAll}
+use Rattle.inference.specs.Trail.{True, False, Ready, Listed, Moved, Struck, OtherIn, AllBut, AllFalse, Settled, PairOk, NineOk, Follows, Clashes, StruckAll, SettledAll}
 use Rattle.inference.specs.declared.propagation.Kind.{Kind}
 use Rattle.inference.proofs.Groups.{index-at}
-use Rattle.inference.proofs.Moves.{moved-more, listed-more}
+use Rattle.inference.proofs.Moves.{moved-none, moved-more, listed-more}
 use Rattle.inference.proofs.Rules.{closed-strikes, closed-lasts}
 
 -- all but the k-th of the first n places were false before, or one of them is false anew
@@ -102,13 +102,15 @@ pub settled-some : {s : ClauseSet} {D E : Kind → Type 0} {p : ℕ} {m tr m' tr
     → SettledAll s D p m tr t m' tr' t' → SettledAll s E p m tr t m' tr' t'
 settled-some h w = record { moved = w .moved; follows = w .follows; nines = λ f e. w .nines f (h f e) }
 
+-- no kind
+pub struck-no-kind : (s : ClauseSet) {D : Kind → Type 0} {p : ℕ} {m tr : List ℕ} {t : ℕ} → Ready m tr t → ((f : Kind) → D f → ⊥) → StruckAll s D p m tr t m tr t
+struck-no-kind s {m = m} r n = record { moved = moved-none r; follows = follows-none s m; struck = λ f d. absurd (n f d) }
+
+pub settled-no-kind : (s : ClauseSet) {D : Kind → Type 0} {p : ℕ} {m tr : List ℕ} {t : ℕ} → Ready m tr t → ((f : Kind) → D f → ⊥) → SettledAll s D p m tr t m tr t
+settled-no-kind s {m = m} r n = record { moved = moved-none r; follows = follows-none s m; nines = λ f d. absurd (n f d) }
+
 -- one kind of group after the other
 module _ (s : ClauseSet) (p : ℕ) (b : p < 729) where
-  pub struck-first : {D : Kind → Type 0} {m tr m' tr' : List ℕ} {t t' : ℕ} (f : Kind) → PairKind s f → True m p → ((g : Kind) → D g → g ≡ f)
-      → Struck (OtherIn 9 f p) m tr t m' tr' t' → StruckAll s D p m tr t m' tr' t'
-  struck-first f h y d w =
-      record { moved = w .moved; follows = strike-follows s f p b h y w; struck = λ g e q o. w .struck q (subst (λ x. OtherIn 9 x p q) (d g e) o) }
-
   pub struck-then : {D E : Kind → Type 0} {m tr m' tr' m'' tr'' : List ℕ} {t t' t'' : ℕ} (f : Kind) → PairKind s f → True m p → ((g : Kind) → E g → D g ⊎ (g ≡ f))
       → StruckAll s D p m tr t m' tr' t' → Struck (OtherIn 9 f p) m' tr' t' m'' tr'' t'' → StruckAll s E p m tr t m'' tr'' t''
   struck-then {m = m} {m' = m'} {m'' = m''} f h y d v w =
@@ -122,18 +124,16 @@ module _ (s : ClauseSet) (p : ℕ) (b : p < 729) where
       → StruckAll s D p m tr t m' tr' t' → (q : ℕ) × OtherIn 9 f p q × True m' q → Clashes s m
   clash-then {m = m} {m' = m'} f h y v z = clashes-back s m m' (v .follows) (strike-clashes s f p b h m' (v .moved .holds _ y) z)
 
-  pub settled-first : {D : Kind → Type 0} {m tr m' tr' : List ℕ} {t t' : ℕ} (f : Kind) → NineKind s f → ((g : Kind) → D g → g ≡ f)
-      → Settled (groupAt f p) m tr t m' tr' t' → SettledAll s D p m tr t m' tr' t'
-  settled-first {m' = m'} f h d w =
-      record { moved = w .moved; follows = settle-follows s f p b h w; nines = λ g e k c a. inr (subst (λ x. AllBut m' (groupAt x p) k → True m' (placeOf (groupAt x p) k)) (sym (d g e)) (w .last k c) a) }
-
-  pub settled-then : {D E F : Kind → Type 0} {m tr m' tr' m'' tr'' : List ℕ} {t t' t'' : ℕ} → ((g : Kind) → F g → D g ⊎ E g)
-      → SettledAll s D p m tr t m' tr' t' → SettledAll s E p m' tr' t' m'' tr'' t'' → SettledAll s F p m tr t m'' tr'' t''
-  settled-then {m = m} {m' = m'} {m'' = m''} {t = t} d v w =
+  pub settled-then : {D E : Kind → Type 0} {m tr m' tr' m'' tr'' : List ℕ} {t t' t'' : ℕ} (f : Kind) → NineKind s f → ((g : Kind) → E g → D g ⊎ (g ≡ f))
+      → SettledAll s D p m tr t m' tr' t' → Settled (groupAt f p) m' tr' t' m'' tr'' t'' → SettledAll s E p m tr t m'' tr'' t''
+  settled-then {m = m} {m' = m'} {m'' = m''} {t = t} f h d v w =
       record {
         moved = moved-more (v .moved) (w .moved);
-        follows = follows-more s m m' m'' (v .follows) (w .follows);
+        follows = follows-more s m m' m'' (v .follows) (settle-follows s f p b h w);
         nines = λ g e. ⊎-elim
             (λ x. nine-moved (w .moved) (λ q i. listed-more (w .moved) t q i) (λ q i. (i .0, omega (arith, i .1, v .moved .longer), i .2, i .3)) (groupAt g p) (v .nines g x))
-            (λ x k c a. ⊎-elim (λ i. inl (i .0, i .1, i .2, (i .3 .0, omega (arith, i .3 .1, v .moved .longer), i .3 .2, i .3 .3))) inr (w .nines g x k c a)) (d g e);
+            (λ x k c a. inr (subst (λ y. AllBut m'' (groupAt y p) k → True m'' (placeOf (groupAt y p) k)) (sym x) (w .last k c) a)) (d g e);
       }
+
+  pub none-then : {D : Kind → Type 0} {m tr m' tr' : List ℕ} {t t' : ℕ} (f : Kind) → NineKind s f → SettledAll s D p m tr t m' tr' t' → AllFalse m' (groupAt f p) → Clashes s m
+  none-then {m = m} {m' = m'} f h v a = clashes-back s m m' (v .follows) (settle-clashes s f p b h m' a)

@@ -4,7 +4,7 @@
 use mathlib.Core.Path.{_≡_, refl, ap, sym, subst, _∙_}
 use mathlib.Core.Logic.{_⊎_, inl, inr, ⊎-elim}
 use mathlib.Core.List.{[], _∷_, List·Memᴰ, List·Memᴰ·head, List·Memᴰ·tail, List·Memᴰ·cases-cons, List·Memᴰ·eq-of-singleton}
-use Prim.Native.Nat.{ℕ, suc, _<_}
+use Prim.Native.Nat.{ℕ, zero, suc, _+_, _≤_, _<_}
 use native.Mathlib.Decide.{decLt}
 use native.Mathlib.Omega.{arith}
 use lib.Dec.{T}
@@ -14,87 +14,75 @@ use Rattle.clauses.specs.Shape.{placeOf, IsShape, InSet, clauseOf}
 use Rattle.clauses.specs.declared.ClauseSet.{ClauseSet}
 use Rattle.clauses.specs.declared.ClauseSet.the-variants.{Minimal, Extended}
 use Rattle.clauses.specs.declared.Group.{Group}
-use Rattle.clauses.specs.declared.Group.the-variants as group
 use Rattle.clauses.specs.declared.Shape.{Shape}
 use Rattle.clauses.specs.declared.Shape.the-variants.{OneOf, NotBoth}
 use Rattle.clauses.proofs.Members.{over-iff, member-iff}
 use Rattle.closure.specs.Sets.{LiteralSet}
 use Rattle.closure.specs.Closure.{UnitClosed}
-use Rattle.inference.specs.Groups.{groupAt, PairKind, NineKind, IsHouse}
+use Rattle.inference.specs.Groups.{groupAt, kindAt, numberOf, pairKinds, PairKind, NineKind}
 use Rattle.inference.specs.declared.propagation.Kind.{Kind}
 use Rattle.inference.specs.declared.propagation.Kind.the-variants.{Cell, Row, Column, Box}
 use Rattle.inference.proofs.Groups.{group-is, by-kind, place-once}
 
--- a house is of a kind of which both sets have the pairs, and set 2 the nine
-pub house-pairs : (s : ClauseSet) (f : Kind) → IsHouse f → PairKind s f
-house-pairs Extended f h = tt
-house-pairs Minimal Cell h = h
-house-pairs Minimal Row h = tt
-house-pairs Minimal Column h = tt
-house-pairs Minimal Box h = tt
+-- the kinds and their numbers
+pub number-below : (f : Kind) → numberOf f < 4
+number-below Row = omega arith
+number-below Column = omega arith
+number-below Box = omega arith
+number-below Cell = omega arith
 
--- the three kinds of house
-pub house-cases : (f : Kind) → IsHouse f → ((f ≡ Row) ⊎ (f ≡ Column)) ⊎ (f ≡ Box)
-house-cases Cell h = absurd h
-house-cases Row h = inl (inl refl)
-house-cases Column h = inl (inr refl)
-house-cases Box h = inr refl
+pub number-at : (i : ℕ) → i < 4 → numberOf (kindAt i) ≡ i
+number-at zero h = refl
+number-at (suc zero) h = refl
+number-at (suc (suc zero)) h = refl
+number-at (suc (suc (suc i))) h = omega arith
 
--- a kind is a house or a cell; set 1 has the pairs of houses and the nine of cells alone
-pub kind-cases : (f : Kind) → IsHouse f ⊎ (f ≡ Cell)
-kind-cases Cell = inr refl
-kind-cases Row = inl tt
-kind-cases Column = inl tt
-kind-cases Box = inl tt
+at-number : (f : Kind) → f ≡ kindAt (numberOf f)
+at-number Row = refl
+at-number Column = refl
+at-number Box = refl
+at-number Cell = refl
 
-pub minimal-pairs : (f : Kind) → PairKind Minimal f → IsHouse f
-minimal-pairs Cell h = h
-minimal-pairs Row h = tt
-minimal-pairs Column h = tt
-minimal-pairs Box h = tt
+-- a kind before the next number is before this one, or is the one of this number
+pub number-next : (i : ℕ) (k : Kind) → k ≡ kindAt i → (f : Kind) → numberOf f < i + 1 → (numberOf f < i) ⊎ (f ≡ k)
+number-next i k e f h = elim (decLt (numberOf f) i) [ yes b ↦ inl b | no b ↦ (let n : numberOf f ≡ i = omega arith in inr (at-number f ∙ ap kindAt n ∙ sym e)) ]
 
-pub minimal-nines : (f : Kind) → NineKind Minimal f → f ≡ Cell
-minimal-nines Cell h = refl
-minimal-nines Row h = absurd h
-minimal-nines Column h = absurd h
-minimal-nines Box h = absurd h
-
-pub cell-nines : (s : ClauseSet) → NineKind s Cell
-cell-nines Minimal = tt
-cell-nines Extended = tt
+pub pairs-below : (s : ClauseSet) → pairKinds s ≤ 4
+pairs-below Minimal = omega arith
+pairs-below Extended = omega arith
 
 -- the kinds are those of the shapes
 pair-in : (s : ClauseSet) (f : Kind) → PairKind s f → (p i j : ℕ) → InSet s (NotBoth (groupAt f p) i j)
 unfolding groupAt
 pair-in Extended f h p i j = tt
-pair-in Minimal Cell h p i j = absurd h
+pair-in Minimal Cell h p i j = omega (arith, h)
 pair-in Minimal Row h p i j = tt
 pair-in Minimal Column h p i j = tt
 pair-in Minimal Box h p i j = tt
 
 in-pair : (s : ClauseSet) (f : Kind) (p i j : ℕ) → InSet s (NotBoth (groupAt f p) i j) → PairKind s f
 unfolding groupAt
-in-pair Extended f p i j h = tt
-in-pair Minimal Cell p i j h = h
-in-pair Minimal Row p i j h = tt
-in-pair Minimal Column p i j h = tt
-in-pair Minimal Box p i j h = tt
+in-pair Extended f p i j h = number-below f
+in-pair Minimal Cell p i j h = absurd h
+in-pair Minimal Row p i j h = omega arith
+in-pair Minimal Column p i j h = omega arith
+in-pair Minimal Box p i j h = omega arith
 
 in-nine : (s : ClauseSet) (f : Kind) (p : ℕ) → InSet s (OneOf (groupAt f p)) → NineKind s f
 unfolding groupAt
-in-nine Extended f p h = tt
-in-nine Minimal Cell p h = tt
-in-nine Minimal Row p h = h
-in-nine Minimal Column p h = h
-in-nine Minimal Box p h = h
+in-nine Extended f p h = omega arith
+in-nine Minimal Cell p h = omega arith
+in-nine Minimal Row p h = absurd h
+in-nine Minimal Column p h = absurd h
+in-nine Minimal Box p h = absurd h
 
 nine-in : (s : ClauseSet) (f : Kind) → NineKind s f → (p : ℕ) → InSet s (OneOf (groupAt f p))
 unfolding groupAt
 nine-in Extended f h p = tt
 nine-in Minimal Cell h p = tt
-nine-in Minimal Row h p = absurd h
-nine-in Minimal Column h p = absurd h
-nine-in Minimal Box h p = absurd h
+nine-in Minimal Row h p = omega (arith, h)
+nine-in Minimal Column h p = omega (arith, h)
+nine-in Minimal Box h p = omega (arith, h)
 
 module _ (s : ClauseSet) (S : LiteralSet) where
   -- in a group a true place strikes the others; the last place left is true

@@ -12,7 +12,7 @@ use lib.IntN.{ℤ}
 use lib.ListN.{length, getD, set, replicate, getD-replicate, length-set}
 use lib.Seq.{getD-set-same, getD-set-other}
 use Rattle.grid.specs.Counting.{tick}
-use Rattle.grid.proofs.Table.{shown, refuted}
+use Rattle.grid.proofs.Table.{true-is, false-is}
 use Rattle.clauses.specs.Literal.{Literal}
 use Rattle.inference.specs.Order.{same, repeats}
 use Rattle.inference.specs.Place.{tablePlace}
@@ -48,11 +48,11 @@ module _ (o : List ℤ) where
 
     each : (l : ℤ) → Literal l → Dec (tablePlace l ≡ at) → getD (set seen at 1) (tablePlace l) 0 ≡ tick (same (entry o n) l || among o n l)
     each l i (yes q) =
-        let t = shown (same (entry o n) l) (same-iff (entry o n) l .1 (place-once (entry o n) l h i (sym (q ∙ e)))) in
-        rw (q, getD-set-same seen at 1 0 (omega (arith, s .long, place-below (entry o n) h)), ← t)
+        let t = true-is (same (entry o n) l) (same-iff (entry o n) l .1 (place-once (entry o n) l h i (sym (q ∙ e)))) in
+        rw (q, getD-set-same seen at 1 0 (omega (arith, s .long, place-below (entry o n) h)), t)
     each l i (no q) =
-        let f = refuted (same (entry o n) l) (λ t. q (ap tablePlace (sym (same-iff (entry o n) l .0 t)) ∙ sym e)) in
-        getD-set-other seen at (tablePlace l) 1 0 q ∙ s .told l i ∙ ap (λ b. tick (b || among o n l)) f
+        let f = false-is (same (entry o n) l) (λ t. q (ap tablePlace (sym (same-iff (entry o n) l .0 t)) ∙ sym e)) in
+        getD-set-other seen at (tablePlace l) 1 0 q ∙ s .told l i ∙ ap (λ b. tick (b || among o n l)) (sym f)
 
     more : Seen (n + 1) (set seen at 1)
     more = record {

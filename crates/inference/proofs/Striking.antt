@@ -12,7 +12,7 @@ use Rattle.grid.proofs.Completion.{eq-iff}
 use Rattle.clauses.specs.Shape.{placeOf}
 use Rattle.closure.specs.Marks.{has}
 use Rattle.inference.specs.Groups.{groupAt}
-use Rattle.inference.specs.Trail.{True, False, Ready, Struck, OtherAt, OtherIn}
+use Rattle.inference.specs.Trail.{True, False, Ready, Struck, Other, OtherIn}
 use Rattle.inference.specs.declared.propagation.Kind.{Kind}
 use Rattle.inference.proofs.Moves.{moved-none, moved-more, has-set, moved-mark}
 
@@ -65,22 +65,21 @@ pub struck-true : {O : ℕ → Type 0} {m tr m' tr' : List ℕ} {t t' : ℕ} →
 struck-true w q p = ⊎-elim (λ x. x) (λ y. absurd (let z : _≡_ {A = ℕ} 0 1 = cc (y .2) in omega arith)) (w .only (pos (suc q)) p)
 
 -- one place of a group more
-pub struck-next : (f : Kind) (p k : ℕ) {m tr m' tr' m'' tr'' : List ℕ} {t t' t'' : ℕ}
-    → Struck (OtherIn k f p) m tr t m' tr' t' → Struck (OtherAt f p k) m' tr' t' m'' tr'' t'' → Struck (OtherIn (k + 1) f p) m tr t m'' tr'' t''
-struck-next f p k v w = struck-more v w split (λ q o. (o .0, omega (arith, o .1), o .2)) (λ q o. (k, omega arith, o))
+pub struck-next : (f : Kind) (p k x : ℕ) {m tr m' tr' m'' tr'' : List ℕ} {t t' t'' : ℕ} → x ≡ placeOf (groupAt f p) k
+    → Struck (OtherIn k f p) m tr t m' tr' t' → Struck (Other p x) m' tr' t' m'' tr'' t'' → Struck (OtherIn (k + 1) f p) m tr t m'' tr'' t''
+struck-next f p k x e v w = struck-more v w split (λ q o. (o .0, omega (arith, o .1), o .2)) (λ q o. (k, omega arith, (o .0 ∙ e, o .1)))
   where
-    split : (q : ℕ) → OtherIn (k + 1) f p q → OtherIn k f p q ⊎ OtherAt f p k q
+    split : (q : ℕ) → OtherIn (k + 1) f p q → OtherIn k f p q ⊎ Other p x q
     split q o = elim (decLt (o .0) k) [
       | yes h ↦ inl (o .0, h, o .2)
-      | no h ↦ (let i : o .0 ≡ k = omega (arith, o .1) in inr (o .2 .0 ∙ ap (placeOf (groupAt f p)) i, o .2 .1))
+      | no h ↦ (let i : o .0 ≡ k = omega (arith, o .1) in inr (o .2 .0 ∙ ap (placeOf (groupAt f p)) i ∙ sym e, o .2 .1))
     ]
 
--- the k-th place, where it is not p
-pub struck-other : (f : Kind) (p k : ℕ) {m tr m' tr' : List ℕ} {t t' : ℕ} (x : ℕ) → x ≡ placeOf (groupAt f p) k → (x ≡ p → ⊥)
-    → Struck (λ q. q ≡ x) m tr t m' tr' t' → Struck (OtherAt f p k) m tr t m' tr' t'
-struck-other f p k x e n w =
+-- a place that is not p
+pub struck-other : (p x : ℕ) {m tr m' tr' : List ℕ} {t t' : ℕ} → (x ≡ p → ⊥) → Struck (λ q. q ≡ x) m tr t m' tr' t' → Struck (Other p x) m tr t m' tr' t'
+struck-other p x n w =
     record {
       moved = w .moved;
-      struck = λ q o. w .struck q (o .0 ∙ sym e);
-      only = λ l h. ⊎-elim inl (λ y. inr (y .0, (y .1 ∙ e, λ j. n (sym (y .1) ∙ j)), y .2)) (w .only l h);
+      struck = λ q o. w .struck q (o .0);
+      only = λ l h. ⊎-elim inl (λ y. inr (y .0, (y .1, λ j. n (sym (y .1) ∙ j)), y .2)) (w .only l h);
     }

@@ -4,7 +4,7 @@ use mathlib.Core.Path.{_≡_, refl, ap, sym, subst, _∙_}
 use mathlib.Core.Logic.{inl, inr, ⊎-elim}
 use mathlib.Core.Bool.{Bool, true, false, cond}
 use mathlib.Core.List.{List}
-use Prim.Native.Nat.{ℕ, zero, suc, _+_, _≤_}
+use Prim.Native.Nat.{ℕ, zero, suc, _+_}
 use native.Mathlib.Omega.{arith}
 use lib.Dec.{T, eqb}
 use lib.IntN.{ℤ, pos, negsuc, negℤ, negℤ-negℤ}
@@ -16,22 +16,14 @@ use Rattle.clauses.specs.declared.ClauseSet.{ClauseSet}
 use Rattle.closure.specs.Marks.{has, isDecided, mark, decided, IsMarks}
 use Rattle.closure.specs.Propagation.{Answer, clash, unitClosure}
 use Rattle.closure.specs.Job.{Step, kept, refuted, broken, try, stepOf, step, Walk, walked, ended, after, isFull, solved, stopped}
-use Rattle.closure.proofs.Marks.{or-iff, decided-bounded}
+use Rattle.closure.proofs.Marks.{or-iff}
 use Rattle.grid.proofs.Completion.{eq-iff}
-use Rattle.inference.specs.Steps.{StateOk, answerOf, ClosedOk}
+use Rattle.grid.proofs.Table.{true-is, false-is}
+use Rattle.inference.specs.Steps.{MarksOk, answerOf, ClosedOk}
 use Rattle.inference.specs.Trail.{placeAt}
 use Rattle.inference.specs.declared.propagation.Reached.{Reached}
 use Rattle.inference.specs.declared.propagation.Reached.the-variants.{Clash, Tail}
-use Rattle.inference.specs.declared.trial.State.{State}
 use Rattle.inference.proofs.Closing.{open-byte}
-
-pub true-is : (b : Bool) → T b → b ≡ true
-true-is true t = refl
-true-is false t = absurd t
-
-pub false-is : (b : Bool) → (T b → ⊥) → b ≡ false
-false-is true n = absurd (n tt)
-false-is false n = refl
 
 not-not : (b : Bool) → ((T b → ⊥) → ⊥) → T b
 not-not true n = tt
@@ -67,15 +59,9 @@ open-negation m l n t =
     ⊎-elim (λ x. n (or-iff (has m l) (has m (negℤ l)) .1 (inr x))) (λ x. n (or-iff (has m l) (has m (negℤ l)) .1 (inl (subst (λ y. T (has m y)) (negℤ-negℤ l) x))))
     (or-iff (has m (negℤ l)) (has m (negℤ (negℤ l))) .0 t)
 
--- the state after a closure that is no contradiction
-pub closed-state : (s : ClauseSet) (a : State) (m : List ℕ) (r : Reached) (t : ℕ) → StateOk s a → r ≡ Tail t → ClosedOk s (a .marks) m r
-    → StateOk s (record { marks = m; decided = a .decided + t })
-closed-state s a m r t ok e h =
-    let w : ClosedOk s (a .marks) m (Tail t) = subst (ClosedOk s (a .marks) m) e h in
-    record { marks = w .0; count = omega (arith, ok .count, w .1) }
-
-pub closed-fits : (s : ClauseSet) (a : State) (m : List ℕ) (r : Reached) (t : ℕ) → StateOk s a → r ≡ Tail t → ClosedOk s (a .marks) m r → a .decided + t ≤ 729
-closed-fits s a m r t ok e h = let w = closed-state s a m r t ok e h in omega (arith, w .count, decided-bounded m)
+-- the marks after a closure that is no contradiction
+pub closed-marks : (s : ClauseSet) (m m' : List ℕ) (r : Reached) (t : ℕ) → r ≡ Tail t → ClosedOk s m m' r → MarksOk s m' × (decided m' ≡ decided m + t)
+closed-marks s m m' r t e h = subst (ClosedOk s m m') e h
 
 -- a place is decided where its byte is not 0
 pub byte-decided : (m : List ℕ) → IsMarks m → (l : ℤ) → Literal l → (getD m (placeAt l) 0 ≡ 0 → ⊥) → T (isDecided m l)

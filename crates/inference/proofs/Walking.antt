@@ -14,7 +14,7 @@ use Rattle.clauses.specs.Clauses.{Clause}
 use Rattle.closure.specs.Marks.{decided, blank}
 use Rattle.closure.specs.Propagation.{Answer, clash, closed, bind, join, unitClosure}
 use Rattle.closure.specs.Job.{Step, skip, halt, kept, broken, refuted, Walk, walked, ended, isFull, unlessFull, after, step, walk, nextPass, passes, opened, solved, contradiction, fromClosure, start, jobEnd}
-use Rattle.inference.proofs.Trying.{true-is, false-is}
+use Rattle.grid.proofs.Table.{true-is, false-is}
 
 -- on from a part of a walk
 abbrev pub onward : Walk → (List ℕ → ℕ → Bool → Walk) → Walk

@@ -1,9 +1,12 @@
 -- The four groups of a place.
-use Prim.Native.Nat.{ℕ, _+_, _*_, _/_, _%_}
+use mathlib.Core.Path.{_≡_}
+use Prim.Native.Nat.{ℕ, zero, suc, _+_, _*_, _/_, _%_, _≤_, _<_}
+use Rattle.clauses.specs.Shape.{placeOf}
 use Rattle.clauses.specs.declared.ClauseSet.{ClauseSet}
 use Rattle.clauses.specs.declared.ClauseSet.the-variants.{Minimal, Extended}
 use Rattle.clauses.specs.declared.Group.{Group}
 use Rattle.clauses.specs.declared.Group.the-variants as group
+use Rattle.inference.specs.declared.propagation.Line.{Line}
 use Rattle.inference.specs.declared.propagation.Kind.{Kind}
 use Rattle.inference.specs.declared.propagation.Kind.the-variants.{Cell, Row, Column, Box}
 
@@ -14,32 +17,49 @@ groupAt Row p = group.House (p / 81) (p % 9)
 groupAt Column p = group.House (9 + p / 9 % 9) (p % 9)
 groupAt Box p = group.House (18 + (3 * (p / 243) + p / 27 % 3)) (p % 9)
 
--- where place p stands in it
+-- the k-th place of a line
+abbrev pub placeAlong : Line → ℕ → ℕ
+placeAlong a k = a .first + a .far * (k / 3) + a .near * (k % 3)
+
+-- a line has the nine places of a group
+abbrev pub LineOf : Group → Line → Type 0
+LineOf g a = (k : ℕ) → k < 9 → placeAlong a k ≡ placeOf g k
+
+-- where place p stands in its group
 unfoldable pub indexAt : Kind → ℕ → ℕ
 indexAt Cell p = p % 9
 indexAt Row p = p / 9 % 9
 indexAt Column p = p / 81
 indexAt Box p = 3 * (p / 81 % 3) + p / 9 % 3
 
--- the kinds of group of which a set has the pairs
+-- the kinds by number: the houses, then the cell
+abbrev pub kindAt : ℕ → Kind
+kindAt zero = Row
+kindAt (suc zero) = Column
+kindAt (suc (suc zero)) = Box
+kindAt (suc (suc (suc i))) = Cell
+
+-- the number of a kind
+abbrev pub numberOf : Kind → ℕ
+numberOf Row = 0
+numberOf Column = 1
+numberOf Box = 2
+numberOf Cell = 3
+
+-- of how many kinds, the first of them, a set has the pairs: set 1 of the houses, set 2 of all
+abbrev pub pairKinds : ClauseSet → ℕ
+pairKinds Minimal = 3
+pairKinds Extended = 4
+
+-- a set has the pairs of a kind
 abbrev pub PairKind : ClauseSet → Kind → Type 0
-PairKind Extended f = Unit {0}
-PairKind Minimal Cell = ⊥
-PairKind Minimal Row = Unit {0}
-PairKind Minimal Column = Unit {0}
-PairKind Minimal Box = Unit {0}
+PairKind s f = numberOf f < pairKinds s
 
--- the kinds of group of which it has the clause of nine
+-- from which kind on a set has the nine: set 1 of the cell, set 2 of all
+abbrev pub firstNine : ClauseSet → ℕ
+firstNine Minimal = 3
+firstNine Extended = 0
+
+-- a set has the nine of a kind
 abbrev pub NineKind : ClauseSet → Kind → Type 0
-NineKind Extended f = Unit {0}
-NineKind Minimal Cell = Unit {0}
-NineKind Minimal Row = ⊥
-NineKind Minimal Column = ⊥
-NineKind Minimal Box = ⊥
-
--- the kinds that are houses
-abbrev pub IsHouse : Kind → Type 0
-IsHouse Cell = ⊥
-IsHouse Row = Unit {0}
-IsHouse Column = Unit {0}
-IsHouse Box = Unit {0}
+NineKind s f = firstNine s ≤ numberOf f

@@ -48,14 +48,14 @@ ClosedOk s m m' (Tail t) = MarksOk s m' × (decided m' ≡ decided m + t)
 -- a trial, as a step
 abbrev pub triedOf : Shown → List ℕ → job.Step
 triedOf Kept m = job.kept
-triedOf Refuted m = job.refuted m
+triedOf (Refuted t) m = job.refuted m
 triedOf Broken m = job.broken
 
--- one that shows nothing leaves the state
-abbrev pub TriedOk : State → State → Shown → Type 0
-TriedOk a b Kept = b ≡ a
-TriedOk a b Refuted = Unit {0}
-TriedOk a b Broken = Unit {0}
+-- the marks change only where the negation joins, and t more variables are decided
+abbrev pub TriedOk : List ℕ → List ℕ → Shown → Type 0
+TriedOk m m' Kept = m' ≡ m
+TriedOk m m' (Refuted t) = decided m' ≡ decided m + t
+TriedOk m m' Broken = m' ≡ m
 
 -- the end of a job
 abbrev pub endOf : End → List ℕ → job.End
@@ -66,13 +66,13 @@ endOf (Contradiction n) m = job.contradiction n
 
 -- a pass, or a part of it
 abbrev pub walkOf : Pass → List ℕ → job.Walk
-walkOf (Walked n f) m = job.walked m n f
-walkOf (Ended e) m = job.ended (endOf e m)
+walkOf (Walked d n f) m = job.walked m n f
+walkOf (Ended d e) m = job.ended (endOf e m)
 
--- where it goes on, its count is at most the ceiling
-abbrev pub CountOk : ℕ → Pass → Type 0
-CountOk c (Walked n f) = n ≤ c
-CountOk c (Ended e) = Unit {0}
+-- the number decided is that of the marks, and where the pass goes on, its count is at most the ceiling
+abbrev pub PassOk : ℕ → List ℕ → Pass → Type 0
+PassOk c m (Walked d n f) = (n ≤ c) × (d ≡ decided m)
+PassOk c m (Ended d e) = d ≡ decided m
 
 -- no place from p on is decided
 abbrev pub OpenFrom : ℕ → List ℕ → Type 0

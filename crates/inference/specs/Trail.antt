@@ -66,13 +66,13 @@ pub record Struck (O : ℕ → Type 0) (m tr : List ℕ) (t : ℕ) (m' tr' : Lis
   pub struck : (q : ℕ) → O q → False m' q
   pub only : (l : ℤ) → T (has m' l) → T (has m l) ⊎ ((q : ℕ) × O q × (l ≡ negsuc q))
 
--- the k-th place of the group of that kind at p, other than p
-abbrev pub OtherAt : Kind → ℕ → ℕ → ℕ → Type 0
-OtherAt f p k q = (q ≡ placeOf (groupAt f p) k) × (q ≡ p → ⊥)
+-- the place q, unless it is p
+abbrev pub Other : ℕ → ℕ → ℕ → Type 0
+Other p q x = (x ≡ q) × (x ≡ p → ⊥)
 
--- one of the first n
+-- one of the first n places of the group of that kind at p, unless it is p
 abbrev pub OtherIn : ℕ → Kind → ℕ → ℕ → Type 0
-OtherIn n f p q = (k : ℕ) × (k < n) × OtherAt f p k q
+OtherIn n f p x = (k : ℕ) × (k < n) × Other p (placeOf (groupAt f p) k) x
 
 -- all places of a group but the k-th are false
 abbrev pub AllBut : List ℕ → Group → ℕ → Type 0

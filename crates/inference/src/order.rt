@@ -45,8 +45,8 @@ fn table_place(l: i16) -> usize
     if l < 0 { 2 * mark + 1 } else { 2 * mark }
 }
 
-// The operator's check of an order, refusals 22 to 24, in one pass: a table tells which literals have come by. A repeat is only
-// remembered, as the number of entries before it, since an entry that is no literal is reported first wherever it stands.
+// The operator's check of an order, refusals 22 to 24, in one pass: a table tells which literals have come by. The first repeat is only
+// remembered, since an entry that is no literal is reported before it wherever it stands.
 pub fn check_order(order: &[i16]) -> Checked
     ensures { λ r. ⌜ r ≡ orderCheck (now (order .entry)) ⌝ }
 {
@@ -54,7 +54,7 @@ pub fn check_order(order: &[i16]) -> Checked
         return refused(22, 0);
     }
     let mut seen = [0u8; ENTRIES];
-    let mut fresh = 0;
+    let mut repeat = ENTRIES;
     let mut i = 0;
     while i < ENTRIES {
         let l = order[i];
@@ -62,14 +62,15 @@ pub fn check_order(order: &[i16]) -> Checked
             return refused(23, i);
         }
         let at = table_place(l);
-        if seen[at] == 0 && fresh == i {
-            fresh += 1;
+        let here = if seen[at] == 0 { ENTRIES } else { i };
+        if here < repeat {
+            repeat = here;
         }
         seen[at] = 1;
         i += 1;
     }
-    if fresh < ENTRIES {
-        return refused(24, fresh);
+    if repeat < ENTRIES {
+        return refused(24, repeat);
     }
     Checked::Accepted
 }

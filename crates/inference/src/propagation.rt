@@ -3,22 +3,18 @@
 // trail is as long as the marks, and what stands on it from its head on is all that is still to be looked at.
 use clauses::ClauseSet;
 ghost use mathlib.Core.Path.{_≡_};
-ghost use Prim.Native.Nat.{_+_, _<_};
-ghost use lib.ListN.{length, set};
-ghost use Rattle.clauses.specs.Shape.{placeOf};
-ghost use Rattle.clauses.specs.declared.ClauseSet.{ClauseSet as Set};
-ghost use Prim.Native.Nat.{ℕ, suc};
+ghost use Prim.Native.Nat.{ℕ, _+_, _<_};
 ghost use lib.ListN.{getD};
 ghost use Rattle.closure.specs.Marks.{IsMarks};
-ghost use Rattle.inference.specs.Groups.{groupAt, PairKind, NineKind, IsHouse};
-ghost use Rattle.inference.specs.Trail.{True, Ready, Ends, Struck, OtherAt, OtherIn, LeftOf, AllFalse, Settled, Clashes, StruckAll, SettledAll, Visited, Places};
+ghost use Rattle.inference.specs.Groups.{groupAt, placeAlong, LineOf, kindAt, pairKinds, firstNine, PairKind, NineKind};
+ghost use Rattle.inference.specs.Trail.{True, Ready, Ends, Struck, Other, OtherIn, LeftOf, AllFalse, Settled, Clashes, StruckAll, SettledAll, Visited, Places};
 
-// The groups of a place: its cell, and the row, the column and the box of its cell for its digit.
+// The groups of a place: the row, the column and the box of its cell for its digit, and its cell.
 pub enum Kind {
-    Cell,
     Row,
     Column,
     Box,
+    Cell,
 }
 
 // A contradiction, or how far the trail goes.
@@ -27,17 +23,63 @@ pub enum Reached {
     Tail(usize),
 }
 
-// The k-th place of the group of that kind at place p.
-fn place_in(kind: Kind, p: usize, k: usize) -> usize
-    requires { ⌜ (p < 729) × (k < 9) ⌝ }
-    ensures { λ r. ⌜ (r ≡ placeOf (groupAt kind p) k) × (r < 729) ⌝ }
+// The kinds by number, in that order.
+fn kind_at(i: usize) -> Kind
+    ensures { λ r. ⌜ r ≡ kindAt i ⌝ }
+{
+    if i == 0 {
+        Kind::Row
+    } else if i == 1 {
+        Kind::Column
+    } else if i == 2 {
+        Kind::Box
+    } else {
+        Kind::Cell
+    }
+}
+
+// The nine places of a group, three by three: the k-th is first + far * (k / 3) + near * (k % 3).
+pub struct Line {
+    pub first: usize,
+    pub far: usize,
+    pub near: usize,
+}
+
+// The places of the group of that kind at place p.
+fn line_of(kind: Kind, p: usize) -> Line
+    requires { ⌜ p < 729 ⌝ }
+    ensures { λ r. ⌜ LineOf (groupAt kind p) r ⌝ }
 {
     match kind {
-        Kind::Cell => 9 * (p / 9) + k,
-        Kind::Row => 81 * (p / 81) + 9 * k + p % 9,
-        Kind::Column => 81 * k + p % 81,
-        Kind::Box => 81 * (3 * (p / 243) + k / 3) + 9 * (3 * (p / 27 % 3) + k % 3) + p % 9,
+        Kind::Cell => Line {
+            first: 9 * (p / 9),
+            far: 3,
+            near: 1,
+        },
+        Kind::Row => Line {
+            first: 81 * (p / 81) + p % 9,
+            far: 27,
+            near: 9,
+        },
+        Kind::Column => Line {
+            first: p % 81,
+            far: 243,
+            near: 81,
+        },
+        Kind::Box => Line {
+            first: p - 81 * (p / 81 % 3) - 9 * (p / 9 % 3),
+            far: 81,
+            near: 9,
+        },
     }
+}
+
+// The k-th place of a group.
+fn place_in(line: Line, k: usize) -> usize
+    requires { ⌜ placeAlong line k < 729 ⌝ }
+    ensures { λ r. ⌜ r ≡ placeAlong line k ⌝ }
+{
+    line.first + line.far * (k / 3) + line.near * (k % 3)
 }
 
 // A place becomes false, if it is not.
@@ -58,20 +100,18 @@ fn strike_at(marks: &mut [u8; 729], trail: &mut [u16; 729], tail: usize, q: usiz
     Reached::Tail(tail + 1)
 }
 
-// The k-th place of a group of p becomes false, unless it is p.
-fn strike_next(
+// A place becomes false, unless it is p.
+fn strike_other(
     marks: &mut [u8; 729],
     trail: &mut [u16; 729],
     tail: usize,
-    kind: Kind,
     p: usize,
-    k: usize,
+    q: usize,
 ) -> Reached
-    requires { ⌜ Ready (now marks) (now trail) tail × (p < 729) × (k < 9) ⌝ }
-    ensures { λ r. ⌜ Ends ((q : ℕ) × OtherAt kind p k q × True (now (marks .entry)) q)
-        (Struck (OtherAt kind p k) (now (marks .entry)) (now (trail .entry)) tail (now (marks .exit)) (now (trail .exit))) r ⌝ }
+    requires { ⌜ Ready (now marks) (now trail) tail × (q < 729) ⌝ }
+    ensures { λ r. ⌜ Ends ((q ≡ p → ⊥) × True (now (marks .entry)) q)
+        (Struck (Other p q) (now (marks .entry)) (now (trail .entry)) tail (now (marks .exit)) (now (trail .exit))) r ⌝ }
 {
-    let q = place_in(kind, p, k);
     if q == p {
         return Reached::Tail(tail);
     }
@@ -90,10 +130,12 @@ fn strike(
     ensures { λ r. ⌜ Ends ((q : ℕ) × OtherIn 9 kind p q × True (now (marks .entry)) q)
         (Struck (OtherIn 9 kind p) (now (marks .entry)) (now (trail .entry)) tail (now (marks .exit)) (now (trail .exit))) r ⌝ }
 {
+    let line = line_of(kind, p);
     let mut end = tail;
     let mut k = 0;
     while k < 9 {
-        let r = strike_next(marks, trail, end, kind, p, k);
+        let q = place_in(line, k);
+        let r = strike_other(marks, trail, end, p, q);
         match r {
             Reached::Clash => {
                 return Reached::Clash;
@@ -119,10 +161,11 @@ fn look(marks: &[u8; 729], kind: Kind, p: usize) -> Left
     requires { ⌜ (p < 729) × IsMarks (now marks) ⌝ }
     ensures { λ r. ⌜ LeftOf (now (marks .entry)) (groupAt kind p) r ⌝ }
 {
+    let line = line_of(kind, p);
     let mut found = 729;
     let mut k = 0;
     while k < 9 {
-        let q = place_in(kind, p, k);
+        let q = place_in(line, k);
         let m = marks[q];
         if m == 1 {
             return Left::Nothing;
@@ -166,21 +209,24 @@ fn settle(
     }
 }
 
-// A true place strikes its row, its column and its box.
-fn strike_houses(marks: &mut [u8; 729], trail: &mut [u16; 729], tail: usize, p: usize) -> Reached
-    requires { ⌜ Ready (now marks) (now trail) tail × (p < 729) × True (now marks) p ⌝ }
-    ensures { λ r. ⌜ ((s : Set) → Ends (Clashes s (now (marks .entry)))
-        (StruckAll s IsHouse p (now (marks .entry)) (now (trail .entry)) tail (now (marks .exit)) (now (trail .exit))) r) ⌝ }
+// Of how many kinds, the first of them, a set has the pairs.
+fn pair_kinds(set: ClauseSet) -> usize
+    ensures { λ r. ⌜ r ≡ pairKinds set ⌝ }
 {
-    let row = strike(marks, trail, tail, Kind::Row, p);
-    let Reached::Tail(a) = row else {
-        return Reached::Clash;
-    };
-    let column = strike(marks, trail, a, Kind::Column, p);
-    let Reached::Tail(b) = column else {
-        return Reached::Clash;
-    };
-    strike(marks, trail, b, Kind::Box, p)
+    match set {
+        ClauseSet::Minimal => 3,
+        ClauseSet::Extended => 4,
+    }
+}
+
+// From which kind on a set has the nine.
+fn first_nine(set: ClauseSet) -> usize
+    ensures { λ r. ⌜ r ≡ firstNine set ⌝ }
+{
+    match set {
+        ClauseSet::Minimal => 3,
+        ClauseSet::Extended => 0,
+    }
 }
 
 // A true place strikes its groups of which the set has the pairs.
@@ -195,31 +241,22 @@ fn strike_groups(
     ensures { λ r. ⌜ Ends (Clashes set (now (marks .entry)))
         (StruckAll set (PairKind set) p (now (marks .entry)) (now (trail .entry)) tail (now (marks .exit)) (now (trail .exit))) r ⌝ }
 {
-    let houses = strike_houses(marks, trail, tail, p);
-    let Reached::Tail(a) = houses else {
-        return Reached::Clash;
-    };
-    match set {
-        ClauseSet::Minimal => Reached::Tail(a),
-        ClauseSet::Extended => strike(marks, trail, a, Kind::Cell, p),
+    let kinds = pair_kinds(set);
+    let mut end = tail;
+    let mut i = 0;
+    while i < kinds {
+        let r = strike(marks, trail, end, kind_at(i), p);
+        match r {
+            Reached::Clash => {
+                return Reached::Clash;
+            }
+            Reached::Tail(t) => {
+                end = t;
+            }
+        }
+        i += 1;
     }
-}
-
-// The row, the column and the box of a place are settled.
-fn settle_houses(marks: &mut [u8; 729], trail: &mut [u16; 729], tail: usize, p: usize) -> Reached
-    requires { ⌜ Ready (now marks) (now trail) tail × (p < 729) ⌝ }
-    ensures { λ r. ⌜ Ends (Clashes ClauseSet.Extended (now (marks .entry)))
-        (SettledAll ClauseSet.Extended IsHouse p (now (marks .entry)) (now (trail .entry)) tail (now (marks .exit)) (now (trail .exit))) r ⌝ }
-{
-    let row = settle(marks, trail, tail, Kind::Row, p);
-    let Reached::Tail(a) = row else {
-        return Reached::Clash;
-    };
-    let column = settle(marks, trail, a, Kind::Column, p);
-    let Reached::Tail(b) = column else {
-        return Reached::Clash;
-    };
-    settle(marks, trail, b, Kind::Box, p)
+    Reached::Tail(end)
 }
 
 // The groups of a false place of which the set has the nine are settled.
@@ -234,14 +271,21 @@ fn settle_groups(
     ensures { λ r. ⌜ Ends (Clashes set (now (marks .entry)))
         (SettledAll set (NineKind set) p (now (marks .entry)) (now (trail .entry)) tail (now (marks .exit)) (now (trail .exit))) r ⌝ }
 {
-    let cell = settle(marks, trail, tail, Kind::Cell, p);
-    let Reached::Tail(a) = cell else {
-        return Reached::Clash;
-    };
-    match set {
-        ClauseSet::Minimal => Reached::Tail(a),
-        ClauseSet::Extended => settle_houses(marks, trail, a, p),
+    let mut end = tail;
+    let mut i = first_nine(set);
+    while i < 4 {
+        let r = settle(marks, trail, end, kind_at(i), p);
+        match r {
+            Reached::Clash => {
+                return Reached::Clash;
+            }
+            Reached::Tail(t) => {
+                end = t;
+            }
+        }
+        i += 1;
     }
+    Reached::Tail(end)
 }
 
 // Looks at the place that stands at `at` of the trail.

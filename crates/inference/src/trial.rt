@@ -1,20 +1,20 @@
-// Trials along an order of literals, in passes, under a ceiling. A trial is made on a copy of the marks, which takes their place only
-// where the negation of a failed literal joins.
+// Trials along an order of literals, in passes, under a ceiling. A trial is made on a copy of the lent marks, and they change only where
+// the negation of a failed literal joins.
 use crate::propagation::Reached;
 use crate::propagation::propagate;
 use clauses::ClauseSet;
 use clauses::literal;
 ghost use mathlib.Core.Path.{_≡_};
 ghost use mathlib.Core.Bool.{false};
-ghost use Prim.Native.Nat.{_≤_, _<_};
+ghost use Prim.Native.Nat.{_+_, _≤_};
 ghost use lib.Dec.{T};
 ghost use lib.IntN.{negℤ};
 ghost use Rattle.clauses.specs.Literal.{Literal};
 ghost use Rattle.clauses.specs.Clauses.{clausesOf};
-ghost use Rattle.closure.specs.Marks.{isDecided, mark};
+ghost use Rattle.closure.specs.Marks.{isDecided, mark, decided as decisions};
 ghost use Rattle.closure.specs.Propagation.{unitClosure};
 ghost use Rattle.closure.specs.Job.{step, walk as walkAlong, passes as passesAlong, after, try, walked};
-ghost use Rattle.inference.specs.Steps.{MarksOk, ClosedOk, answerOf, StateOk, TriedOk, triedOf, walkOf, CountOk, endOf, Literals};
+ghost use Rattle.inference.specs.Steps.{MarksOk, ClosedOk, answerOf, StateOk, TriedOk, triedOf, walkOf, PassOk, endOf, Literals};
 
 // The state of a job: a mark for each variable, 0 undecided, 1 true, 2 false, with the number decided.
 pub struct State {
@@ -35,48 +35,33 @@ fn close_with(marks: &mut [u8; 729], set: ClauseSet, literal: i16) -> Reached
     propagate(marks, &mut trail, 1, set)
 }
 
-// What a trial shows: nothing; that the negation joins; or a contradiction.
+// What a trial shows: nothing; that the negation joins, with the number of variables that it decides; or a contradiction.
 pub enum Shown {
     Kept,
-    Refuted,
+    Refuted(usize),
     Broken,
 }
 
-// A trial, with the state that it leaves.
-pub struct Tried {
-    pub shown: Shown,
-    pub state: State,
-}
-
-// A trial of a literal; where it fails, the state is that of its negation.
-fn attempt(state: State, set: ClauseSet, literal: i16) -> Tried
-    requires { ⌜ StateOk set state × Literal literal × (T (isDecided (state .marks) literal) → ⊥) ⌝ }
-    ensures { λ r. ⌜ (triedOf (r .shown) (r .state .marks)
-        ≡ try (unitClosure (clausesOf set) (mark (state .marks) literal)) (λ u. unitClosure (clausesOf set) (mark (state .marks) (negℤ literal))))
-        × StateOk set (r .state) × TriedOk state (r .state) (r .shown) ⌝ }
+// A trial of a literal; where it fails, the marks become those of its negation.
+fn attempt(marks: &mut [u8; 729], set: ClauseSet, literal: i16) -> Shown
+    requires { ⌜ MarksOk set (now marks) × Literal literal × (T (isDecided (now marks) literal) → ⊥) ⌝ }
+    ensures { λ r. ⌜ (triedOf r (now (marks .exit)) ≡ try (unitClosure (clausesOf set) (mark (now (marks .entry)) literal))
+        (λ u. unitClosure (clausesOf set) (mark (now (marks .entry)) (negℤ literal))))
+        × MarksOk set (now (marks .exit)) × TriedOk (now (marks .entry)) (now (marks .exit)) r ⌝ }
 {
-    let mut with = state.marks;
+    let mut with = *marks;
     let tried = close_with(&mut with, set, literal);
     match tried {
-        Reached::Tail(_) => Tried {
-            shown: Shown::Kept,
-            state,
-        },
+        Reached::Tail(_) => Shown::Kept,
         Reached::Clash => {
-            let mut without = state.marks;
+            let mut without = *marks;
             let joined = close_with(&mut without, set, literal::negated(literal));
             match joined {
-                Reached::Tail(more) => Tried {
-                    shown: Shown::Refuted,
-                    state: State {
-                        marks: without,
-                        decided: state.decided + more,
-                    },
-                },
-                Reached::Clash => Tried {
-                    shown: Shown::Broken,
-                    state,
-                },
+                Reached::Tail(more) => {
+                    *marks = without;
+                    Shown::Refuted(more)
+                }
+                Reached::Clash => Shown::Broken,
             }
         }
     }
@@ -90,95 +75,79 @@ pub enum End {
     Contradiction(u32),
 }
 
-// How a pass goes: on, with the count and whether a trial has failed; or to the end of the job.
+// How a pass goes, with the number of variables decided: on, with the count and whether a trial has failed; or to the end of the job.
 pub enum Pass {
-    Walked(u32, bool),
-    Ended(End),
-}
-
-// A pass or a part of it, with the state that it leaves.
-pub struct Went {
-    pub pass: Pass,
-    pub state: State,
+    Walked(usize, u32, bool),
+    Ended(usize, End),
 }
 
 // The next literal of the order.
-fn next(state: State, set: ClauseSet, ceiling: u32, count: u32, failed: bool, literal: i16) -> Went
-    requires { ⌜ StateOk set state × Literal literal × (count ≤ ceiling) ⌝ }
-    ensures { λ r. ⌜ (walkOf (r .pass) (r .state .marks) ≡ after (step (clausesOf set) ceiling (state .marks) count literal) (state .marks) count failed walked)
-        × StateOk set (r .state) × CountOk ceiling (r .pass) ⌝ }
+fn next(
+    marks: &mut [u8; 729],
+    decided: usize,
+    set: ClauseSet,
+    ceiling: u32,
+    count: u32,
+    failed: bool,
+    literal: i16,
+) -> Pass
+    requires { ⌜ MarksOk set (now marks) × (decided ≡ decisions (now marks)) × Literal literal × (count ≤ ceiling) ⌝ }
+    ensures { λ r. ⌜ (walkOf r (now (marks .exit))
+        ≡ after (step (clausesOf set) ceiling (now (marks .entry)) count literal) (now (marks .entry)) count failed walked)
+        × MarksOk set (now (marks .exit)) × PassOk ceiling (now (marks .exit)) r ⌝ }
 {
-    if state.marks[literal::mark_index(literal)] != 0 {
-        return Went {
-            pass: Pass::Walked(count, failed),
-            state,
-        };
+    if marks[literal::mark_index(literal)] != 0 {
+        return Pass::Walked(decided, count, failed);
     }
     if count == ceiling {
-        return Went {
-            pass: Pass::Ended(End::Stopped(count)),
-            state,
-        };
+        return Pass::Ended(decided, End::Stopped(count));
     }
-    let tried = attempt(state, set, literal);
-    let shown = tried.shown;
-    let after = tried.state;
+    let shown = attempt(marks, set, literal);
     match shown {
-        Shown::Kept => Went {
-            pass: Pass::Walked(count + 1, failed),
-            state: after,
-        },
-        Shown::Broken => Went {
-            pass: Pass::Ended(End::Contradiction(count + 1)),
-            state: after,
-        },
-        Shown::Refuted => {
-            if after.decided == 729 {
-                return Went {
-                    pass: Pass::Ended(End::Solved(count + 1)),
-                    state: after,
-                };
+        Shown::Kept => Pass::Walked(decided, count + 1, failed),
+        Shown::Broken => Pass::Ended(decided, End::Contradiction(count + 1)),
+        Shown::Refuted(more) => {
+            let sum = decided + more;
+            if sum == 729 {
+                return Pass::Ended(sum, End::Solved(count + 1));
             }
-            Went {
-                pass: Pass::Walked(count + 1, true),
-                state: after,
-            }
+            Pass::Walked(sum, count + 1, true)
         }
     }
 }
 
 // A pass along the order.
-fn walk(state: State, set: ClauseSet, order: &[i16], ceiling: u32, count: u32) -> Went
-    requires { ⌜ StateOk set state × Literals (now order) × (count ≤ ceiling) ⌝ }
-    ensures { λ r. ⌜ (walkOf (r .pass) (r .state .marks) ≡ walkAlong (clausesOf set) ceiling (now (order .entry)) (state .marks) count false)
-        × StateOk set (r .state) × CountOk ceiling (r .pass) ⌝ }
+fn walk(
+    marks: &mut [u8; 729],
+    decided: usize,
+    set: ClauseSet,
+    order: &[i16],
+    ceiling: u32,
+    count: u32,
+) -> Pass
+    requires { ⌜ MarksOk set (now marks) × (decided ≡ decisions (now marks)) × Literals (now order) × (count ≤ ceiling) ⌝ }
+    ensures { λ r. ⌜ (walkOf r (now (marks .exit)) ≡ walkAlong (clausesOf set) ceiling (now (order .entry)) (now (marks .entry)) count false)
+        × MarksOk set (now (marks .exit)) × PassOk ceiling (now (marks .exit)) r ⌝ }
 {
-    let mut at = state;
+    let mut d = decided;
     let mut n = count;
     let mut failed = false;
     let mut i = 0;
     while i < order.len() {
-        let went = next(at, set, ceiling, n, failed, order[i]);
-        let pass = went.pass;
-        at = went.state;
+        let pass = next(marks, d, set, ceiling, n, failed, order[i]);
         match pass {
-            Pass::Walked(c, f) => {
+            Pass::Walked(e, c, f) => {
+                d = e;
                 n = c;
                 failed = f;
             }
-            Pass::Ended(end) => {
-                return Went {
-                    pass: Pass::Ended(end),
-                    state: at,
-                };
+            Pass::Ended(e, end) => {
+                return Pass::Ended(e, end);
             }
         }
         i += 1;
     }
-    Went {
-        pass: Pass::Walked(n, failed),
-        state: at,
-    }
+    Pass::Walked(d, n, failed)
 }
 
 // The end of a job, with the state that it leaves.
@@ -193,31 +162,34 @@ pub fn passes(state: State, set: ClauseSet, order: &[i16], ceiling: u32) -> Ende
     ensures { λ r. ⌜ (endOf (r .end) (r .state .marks) ≡ passesAlong (clausesOf set) ceiling 729 (now (order .entry)) (state .marks) 0)
         × StateOk set (r .state) ⌝ }
 {
-    let mut at = state;
+    let mut marks = state.marks;
+    let mut d = state.decided;
     let mut n = 0;
     let mut left = 729usize;
     while 0 < left {
-        let went = walk(at, set, order, ceiling, n);
-        let pass = went.pass;
-        at = went.state;
+        let pass = walk(&mut marks, d, set, order, ceiling, n);
         match pass {
-            Pass::Walked(c, failed) => {
+            Pass::Walked(e, c, failed) => {
                 if !failed {
                     return Ended {
                         end: End::Open(c),
-                        state: at,
+                        state: State { marks, decided: e },
                     };
                 }
+                d = e;
                 n = c;
             }
-            Pass::Ended(end) => {
-                return Ended { end, state: at };
+            Pass::Ended(e, end) => {
+                return Ended {
+                    end,
+                    state: State { marks, decided: e },
+                };
             }
         }
         left -= 1;
     }
     Ended {
         end: End::Open(n),
-        state: at,
+        state: State { marks, decided: d },
     }
 }

@@ -1,5 +1,4 @@
 -- Each way out of the check has the tests of `gridCheck` that lead to its case.
-use native.Mathlib.Omega.{arith}
 use borrow.Author.Needs.{needs}
 use borrow.Author.Tests.{eq-eqb, ne-eqb, lt-ltb, le-ltb}
 use lib.ListN.{length}

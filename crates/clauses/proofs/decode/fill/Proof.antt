@@ -1,5 +1,5 @@
 -- Each arm fills the clause of its shape.
-use mathlib.Core.Path.{_≡_, ap, sym, subst, _∙_}
+use mathlib.Core.Path.{ap, sym, subst, _∙_}
 use mathlib.Core.List.{[], _∷_}
 use native.Mathlib.Omega.{arith}
 use lib.IntN.{negsuc}

@@ -4,7 +4,7 @@ use mathlib.Core.List.{[], _∷_}
 use Prim.Native.Nat.{ℕ, zero, suc, _-_, _≤_}
 use native.Mathlib.Omega.{arith}
 use lib.IntN.{pos, negsuc}
-use lib.ListN.{length, length-set}
+use lib.ListN.{length-set}
 use Rattle.clauses.specs.Clauses.{Clause}
 use Rattle.clauses.proofs.Signed.{returned}
 use Rattle.clauses.proofs.Filling.{literalAt, Filled, filled-none, filled-more, filled-all}
@@ -52,7 +52,7 @@ loop-again c =
     let w = c .before in
     let a = w .before .before .before .args in
     let i = w .loop .inv in
-    (omega arith, filled-more (two (a .first) (a .second)) (w .loop .out) (w .loop .k) (pos 0) (i .1) (c .loop-test .taken) (past (a .first) (a .second) (w .loop .k) (i .0)))
+    (omega arith, filled-more (two (a .first) (a .second)) (w .loop .out) (w .loop .k) _ (i .1) (c .loop-test .taken) (past (a .first) (a .second) (w .loop .k) (i .0)))
 
 same-length : tie.Need-same-length Inv-loop μ-loop
 same-length c = c .before .loop .inv .1 .long ∙ sym (c .before .before .before .before .pre .2)

@@ -1,5 +1,5 @@
 -- The magnitude less 1.
-use mathlib.Core.Path.{_≡_, ap, _∙_}
+use mathlib.Core.Path.{ap, _∙_}
 use native.Mathlib.Omega.{arith}
 use lib.IntN.{natAbs}
 use Rattle.clauses.proofs.Signed.{read}

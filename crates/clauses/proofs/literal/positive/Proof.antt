@@ -1,16 +1,17 @@
--- The sum is the literal, and fits.
-use Prim.Native.Nat.{suc}
+-- The place is read back as it is, so that the sum is the literal, and fits.
+use mathlib.Core.Path.{ap, _∙_}
+use native.Mathlib.Omega.{arith}
 use lib.IntN.{pos}
-use Rattle.clauses.proofs.Signed.{read, positive-is, positive-fits}
+use Rattle.clauses.proofs.Signed.{read, place-is}
 use borrow.Author.Needs.{needs}
 use Rattle.clauses.proofs.literal.positive.Statement.{statement}
 use Rattle.clauses.proofs.literal.positive.Tie as tie
 
 add-result : tie.Need-add-result
-add-result c = let k = c .args .place in rw (positive-is k (c .pre)) (positive-fits k (c .pre))
+add-result c = rw (place-is (c .args .place) (c .pre)) (record { sfits = omega (arith, c .pre) })
 
 returns : tie.Need-returns
-returns c = let k = c .args .place in rw (positive-is k (c .pre)) (read (pos (suc k)) (positive-fits k (c .pre)))
+returns c = read _ (add-result c) ∙ rw (place-is (c .args .place) (c .pre)) (ap pos (omega arith))
 
 pub positive-spec : {M : Type 1} → statement M
 positive-spec =

@@ -1,11 +1,11 @@
--- One pass: the entries before i are literals, the table tells which, and `fresh` is the place of the first repeat among them, or i.
+-- One pass: the entries before i are literals, the table tells which, and `repeat` is the place of the first repeat among them, or 1458.
 use mathlib.Core.Path.{_≡_, ap, sym, subst, _∙_}
 use mathlib.Core.Logic.{⊎-elim}
 use mathlib.Core.Bool.{Bool, true, false, cond, not}
 use mathlib.Core.List.{List}
 use Prim.Native.Nat.{ℕ, _-_, _<_}
 use native.Mathlib.Omega.{arith}
-use borrow.Author.Tests.{eq-eqb, ne-eqb, lt-ltb, le-ltb, eqb-true, eqb-false, not-false}
+use borrow.Author.Tests.{eq-eqb, ne-eqb, lt-ltb, le-ltb, not-false}
 use lib.Dec.{T, ltb}
 use lib.IntN.{ℤ, pos}
 use lib.ListN.{length}
@@ -18,7 +18,7 @@ use Rattle.clauses.specs.Literal.{Literal, isLiteral}
 use Rattle.clauses.proofs.Signed.{read, literal-iff}
 use Rattle.inference.specs.Order.{firstNoLiteral, repeats, firstRepeat, orderCheck}
 use Rattle.inference.specs.Place.{tablePlace}
-use Rattle.inference.proofs.Least.{Least, least-none, least-stays, least-moves, least-is}
+use Rattle.inference.proofs.Least.{Scan, scan-none, scan-fails, scan-first, scan-later, scan-all, least-is}
 use Rattle.inference.proofs.Orders.{entry, place-below}
 use Rattle.inference.proofs.Seen.{Seen, seen-none, entry-read}
 use Rattle.inference.proofs.order.check_order.Statement.{statement}
@@ -28,17 +28,17 @@ abbrev noLiteral : ℤ → Bool
 noLiteral l = not (isLiteral l)
 
 abbrev Inv-loop : tie.InvT-loop
-Inv-loop order seen₀ fresh₀ i₀ seen fresh i = Scanned noLiteral order i × Seen order i seen × Least (repeats order) i fresh
+Inv-loop order seen₀ repeat₀ i₀ seen repeat i = Scanned noLiteral order i × Seen order i seen × Scan (repeats order) 1458 i repeat
 
 abbrev μ-loop : tie.MeasureT-loop
-μ-loop order seen₀ fresh₀ i₀ seen fresh i = 1458 - i
+μ-loop order seen₀ repeat₀ i₀ seen repeat i = 1458 - i
 
 returns : tie.Need-returns Inv-loop μ-loop
 unfolding orderCheck
 returns c = rw (ne-eqb (length (c .before .before .args .order .now)) 1458 (c .before .if1 .taken)) (c .refused .ensures)
 
 loop-holds : tie.Need-loop-holds Inv-loop μ-loop
-loop-holds c = let o = c .before .args .order .now in ((omega arith, omega arith), seen-none o, least-none (repeats o))
+loop-holds c = let o = c .before .args .order .now in ((omega arith, omega arith), seen-none o, scan-none (repeats o) 1458)
 
 module _ (c : tie.After-is-literal Inv-loop μ-loop) where
   abbrev at-loop : tie.At-loop Inv-loop μ-loop
@@ -87,44 +87,44 @@ module _ (c : tie.After-table-place Inv-loop μ-loop) where
 
 loop-again : tie.Need-loop-again Inv-loop μ-loop
 loop-again c =
-    let k = w (c .before) in
+    let k = w (c .before .before) in
     let s = at-loop k .loop in
     let p = repeats (o k) in
-    let now-read = entry-read (o k) (i k) (s .seen) (s .inv .1) (literal (c .before .before)) _ (is-place (c .before)) in (
-      first-later noLiteral (o k) (pos 0) (i k) (s .inv .0) (omega (arith, long k)) (tested k false (c .before .before .if2 .left)),
+    let now-read = entry-read (o k) (i k) (s .seen) (s .inv .1) (literal (c .before .before .before)) _ (is-place (c .before .before)) in (
+      first-later noLiteral (o k) (pos 0) (i k) (s .inv .0) (omega (arith, long k)) (tested k false (c .before .before .before .if2 .left)),
       now-read .more,
       ⊎-elim
-          (λ v. rw (v .2) (least-moves p (i k) (s .fresh) (s .inv .2) (eqb-true (s .fresh) (i k) (v .1 .taken)) (now-read .new (v .0 .taken))))
-          (λ v. rw (v .1) (least-stays p (i k) (s .fresh) (s .inv .2)
-          (⊎-elim (λ u e. absurd (eqb-false (s .fresh) (i k) (u .1 .left) e)) (λ u e. now-read .repeat (u .left)) (v .0 .came))))
-          (c .if3 .came),
+          (λ u. ⊎-elim (λ v. absurd (omega (arith, u .1, v .0 .taken, s .inv .2 .most))) (λ v. rw (v .1) (scan-fails p (s .inv .2) (now-read .new (u .0 .taken)))) (c .if4 .came))
+          (λ u. ⊎-elim
+          (λ v. rw (v .1 ∙ u .1) (scan-first p (s .inv .2) (k .before .before .loop-test .taken) (omega (arith, u .1, v .0 .taken)) (now-read .repeat (u .0 .left))))
+          (λ v. rw (v .1) (scan-later p (s .inv .2) (omega (arith, u .1, v .0 .left)))) (c .if4 .came))
+          (c .before .if3 .came),
     )
 
 -- after the pass the check is at its last test
 module _ (c : tie.After-loop Inv-loop μ-loop) where
-  abbrev fresh : ℕ
-  fresh = c .before .loop .fresh
+  abbrev repeat : ℕ
+  repeat = c .before .loop .repeat
 
-  ended : orderCheck (c .before .before .before .args .order .now) ≡ cond (ltb fresh 1458) (Refused (refusal 24 fresh)) Accepted
+  ended : orderCheck (c .before .before .before .args .order .now) ≡ cond (ltb repeat 1458) (Refused (refusal 24 repeat)) Accepted
   unfolding orderCheck firstNoLiteral firstRepeat
   ended =
       let s = c .before .loop in
       let order = c .before .before .before .args .order .now in
       let many : length order ≡ 1458 = c .before .before .if1 .left in
-      let all-read : s .i ≡ length order = omega arith in
+      let all-read : s .i ≡ 1458 = omega arith in
       let literals = first-none noLiteral order (s .i) (s .inv .0) (omega arith) in
-      let first = least-is (repeats order) (length order) fresh (subst (λ n. Least (repeats order) n fresh) all-read (s .inv .2)) in
-      rw (eq-eqb (length order) 1458 many, le-ltb (firstNoLiteral order) 1458 (omega arith), ← first)
+      let first = least-is (repeats order) 1458 repeat (scan-all (repeats order) 1458 repeat (subst (λ n. Scan (repeats order) 1458 n repeat) all-read (s .inv .2))) in
+      rw (eq-eqb (length order) 1458 many, le-ltb (firstNoLiteral order) 1458 (omega arith), many, ← first)
 
 returns-3 : tie.Need-returns-3 Inv-loop μ-loop
-returns-3 c = let e = c .before .before in rw (ended e, lt-ltb (fresh e) 1458 (c .before .if5 .taken)) (c .refused3 .ensures)
+returns-3 c = let e = c .before .before in rw (ended e, lt-ltb (repeat e) 1458 (c .before .if5 .taken)) (c .refused3 .ensures)
 
 returns-4 : tie.Need-returns-4 Inv-loop μ-loop
-returns-4 c = rw (ended (c .before), le-ltb (fresh (c .before)) 1458 (c .if5 .left))
+returns-4 c = rw (ended (c .before), le-ltb (repeat (c .before)) 1458 (c .if5 .left))
 
 pub check-order-spec : {M : Type 1} → statement M
 check-order-spec =
     tie.close
     (tie.spec Inv-loop μ-loop (λ c κs. tt) returns loop-holds (λ c. omega arith) (λ c. omega arith) (λ c κs. tt) (λ c κs. tt) returns-2
-    table-place-requires below (λ c. omega (arith, at-loop (w (c .before .before)) .loop .inv .2 .most)) (λ c. below (c .before))
-    (λ c. omega arith) (λ c. omega arith) loop-again (λ c κs. tt) returns-3 returns-4)
+    table-place-requires below (λ c. below (c .before .before)) (λ c. omega arith) (λ c. omega arith) loop-again (λ c κs. tt) returns-3 returns-4)

@@ -1,63 +1,69 @@
--- The cell, and under set 2 the houses.
-use mathlib.Core.Path.{_≡_, subst, sym}
+-- The groups of the kinds before i are settled, of those of which the set has the nine.
+use mathlib.Core.Path.{_≡_, ap, _∙_}
 use mathlib.Core.Logic.{inl, inr, ⊎-elim}
-use mathlib.Core.List.{List}
-use Prim.Native.Nat.{ℕ, _<_}
-use Rattle.clauses.specs.declared.ClauseSet.{ClauseSet}
+use Prim.Native.Nat.{_≤_, _<_, _-_}
+use native.Mathlib.Omega.{arith}
 use borrow.Author.Needs.{needs}
-use Rattle.clauses.specs.declared.ClauseSet.the-variants.{Extended}
-use Rattle.inference.specs.Groups.{NineKind, IsHouse}
-use Rattle.inference.specs.Trail.{SettledAll, Clashes, Ends, at-clash, at-tail}
-use Rattle.inference.specs.declared.propagation.Kind.the-variants.{Cell}
-use Rattle.inference.specs.declared.propagation.Reached.{Reached}
-use Rattle.inference.proofs.Moves.{moved-ready, of-clash, of-tail, ends-map}
-use Rattle.inference.proofs.Rules.{kind-cases, minimal-nines, cell-nines}
-use Rattle.inference.proofs.Pending.{settle-clashes, settled-some, settled-first, settled-then, clashes-back}
+use Rattle.clauses.specs.declared.ClauseSet.{ClauseSet}
+use Rattle.inference.specs.Groups.{numberOf, firstNine, NineKind}
+use Rattle.inference.specs.Trail.{SettledAll, at-clash, at-tail}
+use Rattle.inference.proofs.Moves.{moved-ready, of-clash, of-tail}
+use Rattle.inference.proofs.Rules.{number-below, number-at, number-next}
+use Rattle.inference.proofs.Pending.{settled-no-kind, settled-some, settled-then, none-then}
 use Rattle.inference.proofs.propagation.settle_groups.Statement.{statement}
 use Rattle.inference.proofs.propagation.settle_groups.Tie as tie
 
-abbrev start : tie.After-known-told → tie.Start
-start c = c .before .before .before .before .before .before
+abbrev Inv-loop : tie.InvT-loop
+Inv-loop marks₀ trail₀ tail p end₀ i₀ marks trail end i =
+    (i₀ ≤ i) × ((s : ClauseSet) → i₀ ≡ firstNine s → SettledAll s (λ f. NineKind s f × (numberOf f < i)) p marks₀ trail₀ tail marks trail end)
 
--- what the first call does
-cells : (c : tie.After-known-told)
-    → SettledAll (start c .args .set) (λ f. f ≡ Cell) (start c .args .p) (start c .args .marks .now) (start c .args .trail .now) (start c .args .tail)
-    (c .before .before .before .settle .last .0) (c .before .before .before .settle .last .1 .0) (c .before .cell .given .0 .0)
-cells c =
-    let a = start c in
-    settled-first (a .args .set) (a .args .p) (a .pre .1) Cell (cell-nines (a .args .set)) (λ f e. e) (of-tail (c .before .cell .given .1) (c .before .before .before .settle .ensures))
+abbrev μ-loop : tie.MeasureT-loop
+μ-loop marks₀ trail₀ tail p end₀ i₀ marks trail end i = 4 - i
 
-returns : tie.Need-returns
+loop-holds : tie.Need-loop-holds Inv-loop μ-loop
+loop-holds c = (omega arith, λ s e. settled-no-kind s (c .before .pre .0) (λ f h. omega (arith, h .0, h .1, e)))
+
+module _ (n : tie.After-kind-at Inv-loop μ-loop) where
+  abbrev w : tie.At-loop Inv-loop μ-loop
+  w = n .before .before .before .before
+
+  abbrev start : tie.Start Inv-loop μ-loop
+  start = w .before .before
+
+  -- the set has the nine of this kind
+  has-nine : (s : ClauseSet) → w .before .first-nine .result ≡ firstNine s → NineKind s (n .kind-at .result)
+  has-nine s e = omega (arith, ap numberOf (n .kind-at .ensures) ∙ number-at (w .loop .i) (n .before .before .before .loop-test .taken), w .loop .inv .0, e)
+
+settle-requires : tie.Need-settle-requires Inv-loop μ-loop
+settle-requires c κs = let a = start c in (moved-ready (a .pre .0) (w c .loop .inv .1 (a .args .set) (w c .before .first-nine .ensures) .moved), a .pre .1)
+
+returns : tie.Need-returns Inv-loop μ-loop
 returns c =
-    let a = c .before .before .before .before .before in
+    let m = c .before .before in
+    let n = m .before in
+    let a = start n in
     let s = a .args .set in
-    at-clash (settle-clashes s Cell (a .args .p) (a .pre .1) (cell-nines s) (a .args .marks .now) (of-clash (c .enum-told .given .1) (c .before .before .settle .ensures)))
+    let e = w n .before .first-nine .ensures in
+    at-clash (none-then s (a .args .p) (a .pre .1) (n .kind-at .result) (has-nine n s e) (w n .loop .inv .1 s e) (of-clash (c .enum-told .given .1) (m .settle .ensures)))
 
-settle-houses-requires : tie.Need-settle-houses-requires
-settle-houses-requires c κs = let k = c .before .before .before .before in let a = start k in (moved-ready (a .pre .0) (cells k .moved), a .pre .1)
+loop-again : tie.Need-loop-again Inv-loop μ-loop
+loop-again c =
+    let m = c .before .before .before in
+    let n = m .before in
+    let a = start n in
+    let f = n .kind-at .result in (
+      omega (arith, w n .loop .inv .0),
+      λ s e. settled-then s (a .args .p) (a .pre .1) f (has-nine n s e) (λ g h. ⊎-elim (λ x. inl (h .0, x)) inr (number-next (w n .loop .i) f (n .kind-at .ensures) g (h .1)))
+          (w n .loop .inv .1 s e) (of-tail (c .before .r .given .1) (m .settle .ensures)),
+    )
 
--- set 1 has the nine of the cell only
-returns-2 : tie.Need-returns-2
+returns-2 : tie.Need-returns-2 Inv-loop μ-loop
 returns-2 c =
-    let k = c .before .before in
-    at-tail (settled-some (λ f h. minimal-nines f (subst (λ x. NineKind x f) (c .enum-told2 .given .1) h)) (cells k))
-
--- set 2 has those of the houses too
-houses : {s : ClauseSet} {p : ℕ} {m tr m' tr' m'' tr'' : List ℕ} {t t' : ℕ} {r : Reached} → s ≡ Extended → p < 729 → SettledAll s (λ f. f ≡ Cell) p m tr t m' tr' t'
-    → Ends (Clashes Extended m') (SettledAll Extended IsHouse p m' tr' t' m'' tr'') r → Ends (Clashes s m) (SettledAll s (NineKind s) p m tr t m'' tr'') r
-houses {s} {p} {m} {tr} {m'} {tr'} {m''} {tr''} {t} {t'} {r} e b v =
-    subst (λ x. SettledAll x (λ f. f ≡ Cell) p m tr t m' tr' t' → Ends (Clashes Extended m') (SettledAll Extended IsHouse p m' tr' t' m'' tr'') r
-    → Ends (Clashes x m) (SettledAll x (NineKind x) p m tr t m'' tr'') r) (sym e)
-    (λ w. ends-map (clashes-back Extended m m' (w .follows)) (λ k. settled-then Extended p b (λ f h. ⊎-elim inr inl (kind-cases f)) w)) v
-
-returns-3 : tie.Need-returns-3
-returns-3 c =
-    let d = c .before .before .before in
-    let k = d .before .before in
-    houses (d .enum-told3 .given .1) (start k .pre .1) (cells k) (c .settle-houses .ensures)
+    let b = c .before .before in
+    at-tail (settled-some (λ f h. (h, omega (arith, number-below f, c .loop-test .left))) (c .before .loop .inv .1 (b .before .args .set) (b .first-nine .ensures)))
 
 pub settle-groups-spec : {M : Type 1} → statement M
 settle-groups-spec =
     tie.close
-    (tie.spec (λ c κs. search needs) (λ c. search needs) (λ c. search needs) returns (λ c. search needs) (λ c. search needs)
-    settle-houses-requires returns-2 returns-3)
+    (tie.spec Inv-loop μ-loop (λ c κs. search needs) loop-holds (λ c κs. search needs) settle-requires (λ c. search needs) returns (λ c. search needs) (λ c. search needs)
+    (λ c. omega arith) loop-again returns-2)

@@ -1,57 +1,76 @@
--- The houses, and under set 2 the cell.
-use mathlib.Core.Path.{_≡_, subst, sym}
-use mathlib.Core.List.{List}
-use Prim.Native.Nat.{ℕ, _<_}
+-- The groups of the kinds before i are struck.
+use mathlib.Core.Path.{_≡_, ap, _∙_}
+use Prim.Native.Nat.{_<_, _-_}
+use native.Mathlib.Omega.{arith}
 use borrow.Author.Needs.{needs}
 use Rattle.clauses.specs.declared.ClauseSet.{ClauseSet}
-use Rattle.clauses.specs.declared.ClauseSet.the-variants.{Minimal, Extended}
-use Rattle.inference.specs.Groups.{PairKind, IsHouse}
-use Rattle.inference.specs.Trail.{True, OtherIn, Struck, StruckAll, Clashes, Ends, at-clash, at-tail}
-use Rattle.inference.specs.declared.propagation.Kind.the-variants.{Cell}
-use Rattle.inference.specs.declared.propagation.Reached.{Reached}
-use Rattle.inference.proofs.Moves.{moved-ready, of-clash, of-tail, ends-map}
-use Rattle.inference.proofs.Rules.{kind-cases, minimal-pairs}
-use Rattle.inference.proofs.Pending.{struck-some, struck-then, clash-then}
+use Rattle.inference.specs.Groups.{numberOf, pairKinds, PairKind}
+use Rattle.inference.specs.Trail.{StruckAll, at-clash, at-tail}
+use Rattle.inference.proofs.Moves.{moved-ready, of-clash, of-tail}
+use Rattle.inference.proofs.Rules.{number-at, number-next, pairs-below}
+use Rattle.inference.proofs.Pending.{struck-no-kind, struck-some, struck-then, clash-then}
 use Rattle.inference.proofs.propagation.strike_groups.Statement.{statement}
 use Rattle.inference.proofs.propagation.strike_groups.Tie as tie
 
-abbrev start : tie.After-known-told → tie.Start
-start c = c .before .before .before .before .before .before
+abbrev Inv-loop : tie.InvT-loop
+Inv-loop marks₀ trail₀ tail p kinds end₀ i₀ marks trail end i =
+    (s : ClauseSet) → kinds ≡ pairKinds s → StruckAll s (λ f. numberOf f < i) p marks₀ trail₀ tail marks trail end
 
--- what the first call does
-houses : (c : tie.After-known-told) (s : ClauseSet)
-    → StruckAll s IsHouse (start c .args .p) (start c .args .marks .now) (start c .args .trail .now) (start c .args .tail)
-    (c .before .before .before .strike-houses .last .0) (c .before .before .before .strike-houses .last .1 .0) (c .before .houses .given .0 .0)
-houses c s = of-tail (c .before .houses .given .1) (c .before .before .before .strike-houses .ensures s)
+abbrev μ-loop : tie.MeasureT-loop
+μ-loop marks₀ trail₀ tail p kinds end₀ i₀ marks trail end i = kinds - i
 
-returns : tie.Need-returns
+loop-holds : tie.Need-loop-holds Inv-loop μ-loop
+loop-holds c s e = struck-no-kind s (c .before .pre .0) (λ f h. omega (arith, h))
+
+module _ (b : tie.After-pair-kinds Inv-loop μ-loop) where
+  abbrev start : tie.Start Inv-loop μ-loop
+  start = b .before
+
+  kinds-is : b .pair-kinds .result ≡ pairKinds (start .args .set)
+  kinds-is = b .pair-kinds .ensures
+
+module _ (n : tie.After-kind-at Inv-loop μ-loop) where
+  abbrev w : tie.At-loop Inv-loop μ-loop
+  w = n .before .before .before .before
+
+  below : w .loop .i < w .before .pair-kinds .result
+  below = n .before .before .before .loop-test .taken
+
+  -- the set has the pairs of this kind
+  has-pairs : (s : ClauseSet) → w .before .pair-kinds .result ≡ pairKinds s → PairKind s (n .kind-at .result)
+  has-pairs s e = omega (arith, ap numberOf (n .kind-at .ensures) ∙ number-at (w .loop .i) (omega (arith, below, e, pairs-below s)), below, e)
+
+strike-requires : tie.Need-strike-requires Inv-loop μ-loop
+strike-requires c κs =
+    let b = w c .before in
+    let a = start b in
+    (moved-ready (a .pre .0) (w c .loop .inv (a .args .set) (kinds-is b) .moved), a .pre .1)
+
+returns : tie.Need-returns Inv-loop μ-loop
 returns c =
-    let a = c .before .before .before .before .before in
-    at-clash (of-clash (c .enum-told .given .1) (c .before .before .strike-houses .ensures (a .args .set)))
+    let m = c .before .before in
+    let n = m .before in
+    let b = w n .before in
+    let a = start b in
+    let s = a .args .set in
+    at-clash (clash-then s (a .args .p) (a .pre .1) (n .kind-at .result) (has-pairs n s (kinds-is b)) (a .pre .2) (w n .loop .inv s (kinds-is b))
+    (of-clash (c .enum-told .given .1) (m .strike .ensures)))
 
-strike-requires : tie.Need-strike-requires
-strike-requires c κs = let k = c .before .before .before .before in let a = start k in (moved-ready (a .pre .0) (houses k Minimal .moved), a .pre .1)
+loop-again : tie.Need-loop-again Inv-loop μ-loop
+loop-again c s e =
+    let m = c .before .before .before in
+    let n = m .before in
+    let a = start (w n .before) in
+    struck-then s (a .args .p) (a .pre .1) (n .kind-at .result) (has-pairs n s e) (a .pre .2) (number-next (w n .loop .i) (n .kind-at .result) (n .kind-at .ensures)) (w n .loop .inv s e)
+    (of-tail (c .before .r .given .1) (m .strike .ensures))
 
--- set 1 has the pairs of the houses only
-returns-2 : tie.Need-returns-2
+returns-2 : tie.Need-returns-2 Inv-loop μ-loop
 returns-2 c =
-    let k = c .before .before in
-    at-tail (struck-some (λ f h. minimal-pairs f (subst (λ x. PairKind x f) (c .enum-told2 .given .1) h)) (houses k (start k .args .set)))
-
--- set 2 has those of the cell too
-cells : {s : ClauseSet} {p : ℕ} {m tr m' tr' m'' tr'' : List ℕ} {t t' : ℕ} {r : Reached} → s ≡ Extended → p < 729 → True m p → StruckAll Extended IsHouse p m tr t m' tr' t'
-    → Ends ((q : ℕ) × OtherIn 9 Cell p q × True m' q) (Struck (OtherIn 9 Cell p) m' tr' t' m'' tr'') r → Ends (Clashes s m) (StruckAll s (PairKind s) p m tr t m'' tr'') r
-cells {p = p} {m} {tr} {m'' = m''} {tr''} {t} {r = r} e b y v w =
-    subst (λ x. Ends (Clashes x m) (StruckAll x (PairKind x) p m tr t m'' tr'') r) (sym e)
-    (ends-map (clash-then Extended p b Cell tt y v) (λ k. struck-then Extended p b Cell tt y (λ f h. kind-cases f) v) w)
-
-returns-3 : tie.Need-returns-3
-returns-3 c =
-    let d = c .before .before .before in
-    let k = d .before .before in
-    cells (d .enum-told3 .given .1) (start k .pre .1) (start k .pre .2) (houses k Extended) (c .strike .ensures)
+    let b = c .before .before in
+    at-tail (struck-some (λ f h. omega (arith, h, c .loop-test .left, kinds-is b)) (c .before .loop .inv (start b .args .set) (kinds-is b)))
 
 pub strike-groups-spec : {M : Type 1} → statement M
 strike-groups-spec =
     tie.close
-    (tie.spec (λ c κs. search needs) (λ c. search needs) (λ c. search needs) returns (λ c. search needs) (λ c. search needs) strike-requires returns-2 returns-3)
+    (tie.spec Inv-loop μ-loop (λ c κs. search needs) loop-holds (λ c κs. search needs) strike-requires (λ c. search needs) returns (λ c. search needs) (λ c. search needs)
+    (λ c. omega arith) loop-again returns-2)

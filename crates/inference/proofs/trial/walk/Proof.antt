@@ -13,26 +13,27 @@ use Rattle.clauses.specs.Clauses.{clausesOf}
 use Rattle.clauses.specs.Literal.{Literal}
 use Rattle.clauses.proofs.Signed.{read}
 use Rattle.closure.specs.Job.{after, step, walked}
-use Rattle.inference.specs.Steps.{StateOk, walkOf, CountOk}
+use Rattle.closure.specs.Marks.{decided}
+use Rattle.inference.specs.Steps.{MarksOk, walkOf, PassOk}
 use Rattle.inference.specs.declared.trial.Pass.{Pass}
 use Rattle.inference.proofs.Walking.{onward, rest, rest-next, rest-end}
 use Rattle.inference.proofs.trial.walk.Statement.{statement}
 use Rattle.inference.proofs.trial.walk.Tie as tie
 
 abbrev Inv-loop : tie.InvT-loop
-Inv-loop set order ceiling count at₀ n₀ failed₀ i₀ at n failed i =
-    (i ≤ length order) × StateOk set at × (n ≤ ceiling)
-    × (rest (clausesOf set) ceiling order i (at .marks) n failed ≡ rest (clausesOf set) ceiling order 0 (at₀ .marks) count failed₀)
+Inv-loop marks₀ known set order ceiling count d₀ n₀ failed₀ i₀ marks d n failed i =
+    (i ≤ length order) × MarksOk set marks × (n ≤ ceiling) × (d ≡ decided marks)
+    × (rest (clausesOf set) ceiling order i marks n failed ≡ rest (clausesOf set) ceiling order 0 marks₀ count failed₀)
 
 abbrev μ-loop : tie.MeasureT-loop
-μ-loop set order ceiling count at₀ n₀ failed₀ i₀ at n failed i = length order - i
+μ-loop marks₀ known set order ceiling count d₀ n₀ failed₀ i₀ marks d n failed i = length order - i
 
 loop-holds : tie.Need-loop-holds Inv-loop μ-loop
-loop-holds c = (omega arith, c .pre .0, c .pre .2, refl)
+loop-holds c = (omega arith, c .pre .0, c .pre .3, c .pre .1, refl)
 
-module _ (c : tie.After-next-arg Inv-loop μ-loop) where
+module _ (c : tie.After-next-arg2 Inv-loop μ-loop) where
   abbrev at-loop : tie.At-loop Inv-loop μ-loop
-  at-loop = c .before .before
+  at-loop = c .before .before .before
 
   abbrev o : List ℤ
   o = at-loop .before .args .order .now
@@ -42,43 +43,53 @@ module _ (c : tie.After-next-arg Inv-loop μ-loop) where
 
   -- the entry as it is read
   is-read : toZ w16 (ofZ w16 (getD o i (pos 0))) ≡ getD o i (pos 0)
-  is-read = read (getD o i (pos 0)) (record { sfits = c .next-arg .given })
+  is-read = read (getD o i (pos 0)) (record { sfits = c .next-arg2 .given })
 
 next-requires : tie.Need-next-requires Inv-loop μ-loop
 next-requires c κs =
-    let w = c .before .before in
-    (w .loop .inv .1, subst Literal (sym (is-read c)) (w .before .pre .1 (w .loop .i) (c .before .loop-test .taken)), w .loop .inv .2)
+    let w = at-loop c in
+    (w .loop .inv .1, w .loop .inv .3, subst Literal (sym (is-read c)) (w .before .pre .2 (w .loop .i) (c .before .before .loop-test .taken)), w .loop .inv .2)
 
--- what the next literal comes to
-went : (c : tie.After-next Inv-loop μ-loop) (p : Pass) → c .next .result .pass ≡ p → let w = c .before .before .before in let a = w .before .args in
-    onward (walkOf p (c .next .result .state .marks)) (rest (clausesOf (a .set)) (a .ceiling) (a .order .now) (w .loop .i + 1))
-    ≡ rest (clausesOf (a .set)) (a .ceiling) (a .order .now) 0 (a .state .marks) (a .count) false
-went c p e =
-    let w = c .before .before .before in
-    let a = w .before .args in
-    let cs = clausesOf (a .set) in
-    let m = w .loop .at .marks in
-    sym (rest-next cs (a .ceiling) (a .order .now) (w .loop .i) m (w .loop .n) (w .loop .failed) (c .before .before .loop-test .taken) (walkOf p (c .next .result .state .marks))
-    (ap (λ x. walkOf x (c .next .result .state .marks)) (sym e) ∙ c .next .ensures .0
-    ∙ ap (λ x. after (step cs (a .ceiling) m (w .loop .n) x) m (w .loop .n) (w .loop .failed) (λ t k b. walked t k b)) (is-read (c .before))))
-    ∙ w .loop .inv .3
+module _ (c : tie.After-next Inv-loop μ-loop) where
+  abbrev w : tie.At-loop Inv-loop μ-loop
+  w = at-loop (c .before)
+
+  abbrev a : tie.Start Inv-loop μ-loop
+  a = w .before
+
+  -- what the next literal comes to
+  went : (p : Pass) → c .next .result ≡ p
+      → onward (walkOf p (c .next .last .0)) (rest (clausesOf (a .args .set)) (a .args .ceiling) (a .args .order .now) (w .loop .i + 1))
+      ≡ rest (clausesOf (a .args .set)) (a .args .ceiling) (a .args .order .now) 0 (a .args .marks .now) (a .args .count) false
+  went p e =
+      let cs = clausesOf (a .args .set) in
+      let m = w .loop .marks in
+      sym (rest-next cs (a .args .ceiling) (a .args .order .now) (w .loop .i) m (w .loop .n) (w .loop .failed) (c .before .before .before .loop-test .taken) (walkOf p (c .next .last .0))
+      (ap (λ x. walkOf x (c .next .last .0)) (sym e) ∙ c .next .ensures .0
+      ∙ ap (λ x. after (step cs (a .args .ceiling) m (w .loop .n) x) m (w .loop .n) (w .loop .failed) (λ t k b. walked t k b)) (is-read (c .before))))
+      ∙ w .loop .inv .4
+
+  -- the numbers that it gives back
+  good : (p : Pass) → c .next .result ≡ p → PassOk (a .args .ceiling) (c .next .last .0) p
+  good p e = subst (PassOk (a .args .ceiling) (c .next .last .0)) e (c .next .ensures .2)
 
 returns : tie.Need-returns Inv-loop μ-loop
-returns c = let n = c .before .before .before .before in (went n _ (c .before .pass2 .given .1), n .next .ensures .1, tt)
+returns c = let n = c .before .before .before in let e = c .before .pass2 .given .1 in (went n _ e, n .next .ensures .1, good n _ e)
 
 loop-again : tie.Need-loop-again Inv-loop μ-loop
 loop-again c =
-    let n = c .before .before .before .before in
-    let a = n .before .before .before .before .args in
-    (omega (arith, n .before .before .loop-test .taken), n .next .ensures .1, subst (CountOk (a .ceiling)) (c .before .pass .given .1) (n .next .ensures .2), went n _ (c .before .pass .given .1))
+    let n = c .before .before .before in
+    let e = c .before .pass .given .1 in
+    let g = good n _ e in
+    (omega (arith, n .before .before .before .loop-test .taken), n .next .ensures .1, g .0, g .1, went n _ e)
 
 returns-2 : tie.Need-returns-2 Inv-loop μ-loop
 returns-2 c =
     let w = c .before in
     let a = w .before .args in (
-      rest-end (clausesOf (a .set)) (a .ceiling) (a .order .now) (w .loop .i) (w .loop .at .marks) (w .loop .n) (w .loop .failed) (c .loop-test .left) ∙ w .loop .inv .3,
+      rest-end (clausesOf (a .set)) (a .ceiling) (a .order .now) (w .loop .i) (w .loop .marks) (w .loop .n) (w .loop .failed) (c .loop-test .left) ∙ w .loop .inv .4,
       w .loop .inv .1,
-      w .loop .inv .2,
+      (w .loop .inv .2, w .loop .inv .3),
     )
 
 pub walk-spec : {M : Type 1} → statement M
