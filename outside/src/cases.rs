@@ -16,6 +16,10 @@ pub const G: &Grid =
 pub const AI_ESCARGOT: &Grid =
     b"100007090030020008009600500005300900010080002600004000300000010040000007007000300";
 
+/// Open under technique 3, solved under technique 4: by the default order after 2,452 trials and 122.
+pub const VERDICT_FOUR: &Grid =
+    b"150006020800200010004000900500000402060000000042001690000403170000700009000680000";
+
 /// The rows of document 002's figure 5 that have 81 signs.
 pub const FIGURE_FIVE: [&Grid; 9] = [
     b"100007000020030500004900000008006001090000020700000300000001008030050060000400700",
@@ -55,6 +59,22 @@ pub fn named() -> Vec<Grid> {
     ];
     grids.extend(FIGURE_FIVE.into_iter().copied());
     grids
+}
+
+/// Grids that cost a search much: few givens, no completion, or the first only after long.
+pub fn bad() -> Vec<Grid> {
+    lines(include_str!("../bad-grids"))
+}
+
+/// Grids that cost the plain search seconds.
+pub fn slow() -> Vec<Grid> {
+    lines(include_str!("../slow-grids"))
+}
+
+fn lines(text: &str) -> Vec<Grid> {
+    text.lines()
+        .map(|line| Grid::try_from(line.as_bytes()).expect("81 bytes a line"))
+        .collect()
 }
 
 /// Completions of the named grids, the full grids that all generated ones come from.
@@ -112,9 +132,15 @@ impl Random {
         [default_order(), by_digit, by_row, self.order()]
     }
 
-    /// A completion of a named grid with its digits, rows and columns permuted.
+    /// A completion of a named grid, turned.
     pub fn full(&mut self) -> Grid {
-        let base = &BASES[self.below(BASES.len())];
+        let base = BASES[self.below(BASES.len())];
+        self.turned(&base)
+    }
+
+    /// The grid with its digits, rows and columns permuted, and rows perhaps changed for columns:
+    /// its completions are turned the same way.
+    pub fn turned(&mut self, grid: &Grid) -> Grid {
         let digits: [usize; 9] = self.permutation();
         let (rows, columns) = (self.lines(), self.lines());
         let flipped = self.below(2) == 1;
@@ -123,7 +149,10 @@ impl Random {
             if flipped {
                 (row, column) = (column, row);
             }
-            b'1' + digits[usize::from(base[9 * row + column] - b'1')] as u8
+            match grid[9 * row + column] {
+                given if is_given(given) => b'1' + digits[usize::from(given - b'1')] as u8,
+                blank => blank,
+            }
         })
     }
 

@@ -16,7 +16,8 @@
 //! - [`dimacs`]: a clause set with a grid's givens, for public solvers;
 //! - [`cases`]: named grids and generated ones;
 //! - [`packed`]: the C functions' answer word;
-//! - [`plain`], [`plain_job`]: a fast clause call and a fast job call for the bench;
+//! - [`plain`], [`plain_job`], [`plain_search`]: fast clause, job, search and grading calls for the
+//!   bench;
 //! - `proved` (feature `proved`): the proved library's C functions.
 
 pub mod batch;
@@ -33,6 +34,7 @@ pub mod order;
 pub mod packed;
 pub mod plain;
 pub mod plain_job;
+pub mod plain_search;
 #[cfg(feature = "proved")]
 pub mod proved;
 pub mod refusal;

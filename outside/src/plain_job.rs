@@ -7,9 +7,9 @@ use crate::refusal::{demand, demand_none, Refusal};
 
 /// The marks with the number decided.
 #[derive(Clone, Copy)]
-struct State {
-    marks: [u8; 729],
-    decided: usize,
+pub(crate) struct State {
+    pub(crate) marks: [u8; 729],
+    pub(crate) decided: usize,
 }
 
 /// The groups of a place: its cell, its row, its column and its box, the last three for its digit.
@@ -122,8 +122,30 @@ impl Work {
     }
 }
 
+/// The unit closure of a grid's givens, or None for a contradiction.
+pub(crate) fn closed_givens(grid: &[u8], extended: bool) -> Option<State> {
+    let mut state = State {
+        marks: [0; 729],
+        decided: 0,
+    };
+    let mut work = Work {
+        trail: [0; 729],
+        tail: 0,
+    };
+    for (cell, &byte) in grid.iter().enumerate() {
+        if grid::is_given(byte) {
+            work.assign(&mut state.marks, 9 * cell + usize::from(byte - b'1'), 1);
+        }
+    }
+    if !work.propagate(&mut state.marks, extended) {
+        return None;
+    }
+    state.decided = work.tail;
+    Some(state)
+}
+
 /// The unit closure of a closed state with one literal more, or None for a contradiction.
-fn closed_with(state: &State, extended: bool, literal: i16) -> Option<State> {
+pub(crate) fn closed_with(state: &State, extended: bool, literal: i16) -> Option<State> {
     let mut next = *state;
     let mut work = Work {
         trail: [0; 729],
@@ -159,7 +181,7 @@ pub fn job(
 
 /// 22, 23 and 24 in one pass over the order. The first repeat is kept until the end, since an entry
 /// that is no literal is refused before it.
-fn check_order(order: &[i16]) -> Result<(), Refusal> {
+pub(crate) fn check_order(order: &[i16]) -> Result<(), Refusal> {
     demand(order.len() == 1_458, 22)?;
     let mut seen = [false; 1_459];
     let mut repeat = None;
@@ -177,7 +199,7 @@ fn check_order(order: &[i16]) -> Result<(), Refusal> {
 }
 
 /// Outcome, count and marks of a checked job.
-fn run(
+pub(crate) fn run(
     grid: &[u8],
     technique: u32,
     order: &[i16],
@@ -185,24 +207,10 @@ fn run(
     marks: &mut [u8; 729],
 ) -> (u8, u32) {
     let extended = technique == 2 || technique == 4;
-    let mut state = State {
-        marks: [0; 729],
-        decided: 0,
-    };
-    let mut work = Work {
-        trail: [0; 729],
-        tail: 0,
-    };
-    for (cell, &byte) in grid.iter().enumerate() {
-        if grid::is_given(byte) {
-            work.assign(&mut state.marks, 9 * cell + usize::from(byte - b'1'), 1);
-        }
-    }
-    if !work.propagate(&mut state.marks, extended) {
+    let Some(mut state) = closed_givens(grid, extended) else {
         *marks = [0; 729];
         return (4, 0);
-    }
-    state.decided = work.tail;
+    };
     let (outcome, count) = trials(&mut state, technique, extended, order, ceiling);
     *marks = if outcome == 4 { [0; 729] } else { state.marks };
     (outcome, count)

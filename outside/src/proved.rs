@@ -1,7 +1,7 @@
 //! The proved library's C functions behind safe calls. A slice passes as its pointer and its length
 //! in elements; the functions read and write nothing outside the slices that they are lent.
 
-use crate::packed::{unpack, unpack_job};
+use crate::packed::{unpack, unpack_counted};
 use crate::refusal::Refusal;
 
 #[link(name = "host", kind = "static")]
@@ -23,6 +23,23 @@ extern "C" {
         ceiling: u32,
         marks: *mut u8,
         marks_length: usize,
+    ) -> u64;
+    fn grader_search(
+        grid: *const u8,
+        grid_length: usize,
+        first: *mut u8,
+        first_length: usize,
+        second: *mut u8,
+        second_length: usize,
+    ) -> u64;
+    fn grader_grade(
+        grid: *const u8,
+        grid_length: usize,
+        order: *const i16,
+        order_length: usize,
+        ceiling: u32,
+        completion: *mut u8,
+        completion_length: usize,
     ) -> u64;
 }
 
@@ -60,7 +77,7 @@ pub fn job(
     ceiling: u32,
     marks: &mut [u8],
 ) -> Result<(u8, u32), Refusal> {
-    unpack_job(unsafe {
+    unpack_counted(unsafe {
         grader_job(
             grid.as_ptr(),
             grid.len(),
@@ -70,6 +87,40 @@ pub fn job(
             ceiling,
             marks.as_mut_ptr(),
             marks.len(),
+        )
+    })
+}
+
+/// The number of completions found: 0, 1 or 2.
+pub fn search(grid: &[u8], first: &mut [u8], second: &mut [u8]) -> Result<u8, Refusal> {
+    unpack(unsafe {
+        grader_search(
+            grid.as_ptr(),
+            grid.len(),
+            first.as_mut_ptr(),
+            first.len(),
+            second.as_mut_ptr(),
+            second.len(),
+        )
+    })
+}
+
+/// The verdict and the trial total.
+pub fn grade(
+    grid: &[u8],
+    order: &[i16],
+    ceiling: u32,
+    completion: &mut [u8],
+) -> Result<(u8, u32), Refusal> {
+    unpack_counted(unsafe {
+        grader_grade(
+            grid.as_ptr(),
+            grid.len(),
+            order.as_ptr(),
+            order.len(),
+            ceiling,
+            completion.as_mut_ptr(),
+            completion.len(),
         )
     })
 }

@@ -1,15 +1,11 @@
 //! Ceilings in jobs, gradings and batches: where they stop, and what is counted.
 
 use reference::batch::batch;
-use reference::cases::{Grid, Random, AI_ESCARGOT, G};
+use reference::cases::{Grid, Random, AI_ESCARGOT, G, VERDICT_FOUR};
 use reference::grading::{grade, Grade};
 use reference::job::{run, Job, Outcome, TECHNIQUES};
 use reference::order::default_order;
 use reference::search::smallest_two;
-
-/// Open under technique 3 after 2,452 trials, solved under technique 4 after 122.
-const VERDICT_FOUR: &Grid =
-    b"150006020800200010004000900500000402060000000042001690000403170000700009000680000";
 
 fn graded(grid: &Grid, ceiling: u32) -> (u8, u32) {
     let mut completion = [77; 81];

@@ -27,7 +27,8 @@ use Rattle.clauses.specs.declared.Group.the-variants.{Cell, House}
 use Rattle.clauses.proofs.Members.{member-iff, givens-true-iff}
 use Rattle.clauses.proofs.Proper.{Proper, proper-satisfies, satisfying-proper}
 
-table-at : (a n : ℕ) (f : ℕ → ℕ) (k i : ℕ) → k < n → a + k ≡ i → getD (table a n f) k 0 ≡ f i
+-- the entry of a table at a place
+pub table-at : (a n : ℕ) (f : ℕ → ℕ) (k i : ℕ) → k < n → a + k ≡ i → getD (table a n f) k 0 ≡ f i
 unfolding table
 table-at a zero f k i h e = absurd (omega arith)
 table-at a (suc n) f zero i h e = ap f (omega arith)
@@ -73,7 +74,8 @@ unfolding times placeOf
 legal-proper {g} {b} l (Cell c) h = tally-same 9 _ _ (truth-at b c) ∙ one-digit (byte b c) (l .digits c h)
 legal-proper {g} {b} l (House h d) i = tally-same 9 _ _ (λ k u. truth-at b (cellOf h k) d (i .1)) ∙ l .once h d (i .0) (i .1)
 
-completion-long : (A : Truth) → length (completionOf A) ≡ 81
+-- a truth says 81 digits
+pub completion-long : (A : Truth) → length (completionOf A) ≡ 81
 unfolding completionOf table
 completion-long A = refl
 

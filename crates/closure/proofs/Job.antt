@@ -56,11 +56,11 @@ pub record JobOk (R : LiteralSet → Type 0) (G : ℤ → Type 0) (bound : ℕ) 
   pub marks : IsMarks (marksOf e)
 
 -- what holds of the state all along a job with trials
-record Sound (cs : List Clause) (G : ℤ → Type 0) (m : List ℕ) : Type 0 where
-  holds : Holds G (has m)
-  unit : UnitClosed cs (has m)
-  within : Within (has m) (Least (Rules cs true) G)
-  marks : IsMarks m
+pub record Sound (cs : List Clause) (G : ℤ → Type 0) (m : List ℕ) : Type 0 where
+  pub holds : Holds G (has m)
+  pub unit : UnitClosed cs (has m)
+  pub within : Within (has m) (Least (Rules cs true) G)
+  pub marks : IsMarks m
 
 -- by whether every variable is decided
 full-cases : (P : Bool → Type 0) (m : List ℕ) → (decided m ≡ 729 → P true) → (decided m < 729 → P false) → P (isFull m)
@@ -70,7 +70,7 @@ full-cases P m y z = elim (ℕ-discrete (decided m) 729) [
 ]
 
 -- what a step says: the trial rule holds of its literal, or its negation joins with all that follows, or the closure is a contradiction
-abbrev StepOk : List Clause → (ℤ → Type 0) → List ℕ → ℤ → Step → Type 0
+abbrev pub StepOk : List Clause → (ℤ → Type 0) → List ℕ → ℤ → Step → Type 0
 StepOk cs G m l skip = TrialAt cs (has m) l
 StepOk cs G m l halt = Unit {0}
 StepOk cs G m l kept = TrialAt cs (has m) l
@@ -79,7 +79,7 @@ StepOk cs G m l (refuted t) = Sound cs G t × (decided m < decided t)
 
 module _ (cs : List Clause) (wf : WellFormed cs) (G : ℤ → Type 0) where
   -- the unit closure of the state with a literal
-  closes-with : (m : List ℕ) (l : ℤ) → Literal l → (T (has m (negℤ l)) → ⊥) → Closes (UnitClosed cs) (With (has m) l) (unitClosure cs (mark m l))
+  pub closes-with : (m : List ℕ) (l : ℤ) → Literal l → (T (has m (negℤ l)) → ⊥) → Closes (UnitClosed cs) (With (has m) l) (unitClosure cs (mark m l))
   closes-with m l v new = closes-same (UnitClosed cs) _ _ (has-mark m l v new) (unitClosure cs (mark m l)) (unit-closure-ok cs wf (mark m l))
 
   module _ (m : List ℕ) (i : Sound cs G m) (l : ℤ) (v : Literal l) where
@@ -104,7 +104,7 @@ module _ (cs : List Clause) (wf : WellFormed cs) (G : ℤ → Type 0) where
       decided-grows m t (λ x g. q .holds x (inl g)) (negℤ l) (negation-literal l v .0) (q .holds (negℤ l) (inr refl)) new,
     )
 
-    step-ok : (ceiling n : ℕ) → StepOk cs G m l (step cs ceiling m n l)
+    pub step-ok : (ceiling n : ℕ) → StepOk cs G m l (step cs ceiling m n l)
     unfolding step
     step-ok ceiling n = go (isDecided m l) refl (eqb n ceiling)
       where

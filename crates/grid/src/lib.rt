@@ -4,12 +4,14 @@
 //     check_grid           the keyer's check, refusals 11 and 12
 //     first_bad_byte       the place of the first byte of no meaning, in a grid or a batch
 //     legal                the test of a legal completion
+//     copy                 copies of lent bytes
 ghost use mathlib.Core.Path.{_≡_};
 ghost use Prim.Native.Nat.{_<_};
 ghost use Rattle.grid.specs.Grid.{hasMeaning};
 ghost use Rattle.grid.specs.House.{cellOf};
 ghost use Rattle.grid.specs.Refusals.{firstBad, gridCheck};
 
+pub mod copy;
 pub mod legal;
 
 // A refusal of document 01: its number, and a place counted from 0 (0 where none is named).

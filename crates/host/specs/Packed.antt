@@ -12,6 +12,12 @@ use Rattle.clauses.specs.declared.ClauseAnswer.the-variants as answer
 use Rattle.inference.specs.Call as job
 use Rattle.inference.specs.declared.job.JobAnswer.{JobAnswer}
 use Rattle.inference.specs.declared.job.JobAnswer.the-variants as ran
+use Rattle.grading.specs.Call as find
+use Rattle.grading.specs.Grade as grade
+use Rattle.grading.specs.declared.search.SearchAnswer.{SearchAnswer}
+use Rattle.grading.specs.declared.search.SearchAnswer.the-variants as search
+use Rattle.grading.specs.declared.grade.GradeAnswer.{GradeAnswer}
+use Rattle.grading.specs.declared.grade.GradeAnswer.the-variants as graded
 
 -- a refusal: its number and its place
 abbrev pub packedRefusal : Refusal → ℕ
@@ -20,6 +26,10 @@ packedRefusal r = r .number % 256 * 2 ^ 56 + r .place % 2 ^ 48
 -- a small result
 abbrev pub packedResult : ℕ → ℕ
 packedResult n = n % 256 * 2 ^ 48
+
+-- a small result with a count
+abbrev pub packedCounted : ℕ → ℕ → ℕ
+packedCounted n k = packedResult n + k % 2 ^ 48
 
 -- what a check says: 0 where it accepts
 abbrev pub packedCheck : Checked → ℕ
@@ -37,9 +47,27 @@ packedGiven g = (packedClause (g .0), g .1)
 
 -- what the job call answers: the outcome's number and the count
 abbrev pub packedJob : JobAnswer → ℕ
-packedJob (ran.Finished o n) = packedResult (job.outcomeNumber o) + n % 2 ^ 48
+packedJob (ran.Finished o n) = packedCounted (job.outcomeNumber o) n
 packedJob (ran.Refused r) = packedRefusal r
 
 -- with the lent marks at its return
 abbrev pub packedRun : job.Given → ℕ × List ℕ
 packedRun g = (packedJob (g .0), g .1)
+
+-- what the search call answers: none, one or several, as 0, 1 or 2
+abbrev pub packedSearch : SearchAnswer → ℕ
+packedSearch (search.Counted n) = packedResult n
+packedSearch (search.Refused r) = packedRefusal r
+
+-- with the two lent buffers at its return
+abbrev pub packedFound : find.Given → ℕ × List ℕ × List ℕ
+packedFound g = (packedSearch (g .0), g .1, g .2)
+
+-- what the grading call answers: the verdict and the trial total
+abbrev pub packedGrade : GradeAnswer → ℕ
+packedGrade (graded.Graded v n) = packedCounted v n
+packedGrade (graded.Refused r) = packedRefusal r
+
+-- with the lent buffer at its return
+abbrev pub packedGraded : grade.Given → ℕ × List ℕ
+packedGraded g = (packedGrade (g .0), g .1)

@@ -4,7 +4,11 @@
 //     grader_is_completion    the test of a legal completion
 //     grader_clause           the clause call
 //     grader_job              the job call
+//     grader_search           the search call
+//     grader_grade            the grading call
 use clauses::ClauseAnswer;
+use grading::grade::GradeAnswer;
+use grading::search::SearchAnswer;
 use grid::Checked;
 use grid::Refusal;
 use inference::job::JobAnswer;
@@ -14,7 +18,10 @@ ghost use Rattle.grid.specs.Completion.{isCompletion};
 ghost use Rattle.grid.specs.Refusals.{gridCheck};
 ghost use Rattle.clauses.specs.Call.{clauseCall};
 ghost use Rattle.inference.specs.Call.{outcomeNumber, jobCall};
-ghost use Rattle.host.specs.Packed.{packedRefusal, packedResult, packedCheck, packedClause, packedGiven, packedJob, packedRun};
+ghost use Rattle.grading.specs.Call.{searchCall};
+ghost use Rattle.grading.specs.Grade.{gradeCall};
+ghost use Rattle.host.specs.Packed.{packedRefusal, packedResult, packedCounted, packedCheck, packedClause, packedGiven, packedJob, packedRun};
+ghost use Rattle.host.specs.Packed.{packedSearch, packedFound, packedGrade, packedGraded};
 
 const RESULT: u64 = 281474976710656;
 
@@ -30,6 +37,12 @@ fn pack_result(n: usize) -> u64
     ensures { λ p. ⌜ p ≡ packedResult n ⌝ }
 {
     (n % 256) as u64 * RESULT
+}
+
+fn pack_counted(n: usize, count: u32) -> u64
+    ensures { λ p. ⌜ p ≡ packedCounted n count ⌝ }
+{
+    pack_result(n) + (count as u64) % RESULT
 }
 
 fn pack_check(c: Checked) -> u64
@@ -65,8 +78,26 @@ fn pack_job(a: JobAnswer) -> u64
     ensures { λ p. ⌜ p ≡ packedJob a ⌝ }
 {
     match a {
-        JobAnswer::Finished(o, n) => pack_result(outcome_number(o)) + (n as u64) % RESULT,
+        JobAnswer::Finished(o, n) => pack_counted(outcome_number(o), n),
         JobAnswer::Refused(r) => pack_refusal(r),
+    }
+}
+
+fn pack_search(a: SearchAnswer) -> u64
+    ensures { λ p. ⌜ p ≡ packedSearch a ⌝ }
+{
+    match a {
+        SearchAnswer::Counted(n) => pack_result(n as usize),
+        SearchAnswer::Refused(r) => pack_refusal(r),
+    }
+}
+
+fn pack_grade(a: GradeAnswer) -> u64
+    ensures { λ p. ⌜ p ≡ packedGrade a ⌝ }
+{
+    match a {
+        GradeAnswer::Graded(v, n) => pack_counted(v as usize, n),
+        GradeAnswer::Refused(r) => pack_refusal(r),
     }
 }
 
@@ -104,4 +135,26 @@ pub extern "C" fn grader_job(
 {
     let answer = inference::job::job(grid, technique, order, ceiling, marks);
     pack_job(answer)
+}
+
+#[no_mangle]
+pub extern "C" fn grader_search(grid: &[u8], first: &mut [u8], second: &mut [u8]) -> u64
+    ensures { λ p. ⌜ (p, now (first .exit), now (second .exit))
+        ≡ packedFound (searchCall (now (grid .entry)) (now (first .entry)) (now (second .entry))) ⌝ }
+{
+    let answer = grading::search::search(grid, first, second);
+    pack_search(answer)
+}
+
+#[no_mangle]
+pub extern "C" fn grader_grade(
+    grid: &[u8],
+    order: &[i16],
+    ceiling: u32,
+    completion: &mut [u8],
+) -> u64
+    ensures { λ p. ⌜ (p, now (completion .exit)) ≡ packedGraded (gradeCall (now (grid .entry)) (now (order .entry)) ceiling (now (completion .entry))) ⌝ }
+{
+    let answer = grading::grade::grade(grid, order, ceiling, completion);
+    pack_grade(answer)
 }

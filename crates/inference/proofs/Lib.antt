@@ -13,8 +13,4 @@ pub mod Closing
 pub mod Trying
 pub mod Walking
 pub mod Givens
-pub mod Ends
-pub mod MarkBytes
 pub mod Calls
-pub mod Jobs
-pub mod Demand

@@ -5,4 +5,3 @@ pub mod Order
 pub mod Place
 pub mod Steps
 pub mod Call
-pub mod Claims

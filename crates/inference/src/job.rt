@@ -65,7 +65,7 @@ fn mark_given(
 }
 
 // The unit closure of a grid's givens.
-fn begin(marks: &mut [u8; 729], set: ClauseSet, grid: &[u8]) -> Reached
+pub fn begin(marks: &mut [u8; 729], set: ClauseSet, grid: &[u8]) -> Reached
     requires { ⌜ (now marks ≡ blank) × (length (now grid) ≡ 81) ⌝ }
     ensures { λ r. ⌜ (answerOf r (now (marks .exit)) ≡ bind (join blank (givens (now (grid .entry)))) (unitClosure (clausesOf set)))
         × ClosedOk set blank (now (marks .exit)) r ⌝ }
@@ -81,7 +81,7 @@ fn begin(marks: &mut [u8; 729], set: ClauseSet, grid: &[u8]) -> Reached
 }
 
 // A job that is not refused.
-fn run(technique: Technique, grid: &[u8], order: &[i16], ceiling: u32) -> Ended
+pub fn run(technique: Technique, grid: &[u8], order: &[i16], ceiling: u32) -> Ended
     requires { ⌜ (length (now grid) ≡ 81) × Literals (now order) ⌝ }
     ensures { λ r. ⌜ endOf (r .end) (r .state .marks)
         ≡ jobEnd (clausesOf (technique .set)) ceiling (technique .trials) (now (order .entry)) (givens (now (grid .entry))) ⌝ }
@@ -127,7 +127,7 @@ fn copy_out(from: [u8; 729], marks: &mut [u8])
 }
 
 // The answer of a job at its end, and the marks that it leaves.
-fn finish(ended: Ended, marks: &mut [u8]) -> JobAnswer
+pub fn finish(ended: Ended, marks: &mut [u8]) -> JobAnswer
     requires { ⌜ length (now marks) ≡ 729 ⌝ }
     ensures { λ r. ⌜ (r, now (marks .exit)) ≡ finished (endOf (ended .end) (ended .state .marks)) ⌝ }
 {

@@ -23,7 +23,7 @@ pub struct State {
 }
 
 // The unit closure of marks with one literal more; where it is no contradiction, the trail is as long as there are variables newly decided.
-fn close_with(marks: &mut [u8; 729], set: ClauseSet, literal: i16) -> Reached
+pub fn close_with(marks: &mut [u8; 729], set: ClauseSet, literal: i16) -> Reached
     requires { ⌜ MarksOk set (now marks) × Literal literal × (T (isDecided (now marks) literal) → ⊥) ⌝ }
     ensures { λ r. ⌜ (answerOf r (now (marks .exit)) ≡ unitClosure (clausesOf set) (mark (now (marks .entry)) literal))
         × ClosedOk set (now (marks .entry)) (now (marks .exit)) r ⌝ }
@@ -117,7 +117,7 @@ fn next(
 }
 
 // A pass along the order.
-fn walk(
+pub fn walk(
     marks: &mut [u8; 729],
     decided: usize,
     set: ClauseSet,

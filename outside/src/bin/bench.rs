@@ -1,24 +1,36 @@
 //! Times the proved calls beside the plain ones in alternating repetitions, and prints the median
-//! of each with their ratio: the clause call over all numbers of both sets, and jobs of each
-//! technique on three sets of grids. It checks first that both give equal answers; no figure makes
-//! it fail.
+//! of each with their ratio: the clause call over all numbers of both sets; jobs of each technique,
+//! searches and gradings on sets of grids; and the search that takes longest of those on grids that
+//! cost much. It checks first that both give equal answers; no figure makes it fail. Where qqwing is
+//! installed, the proved search stands beside it too.
 
-use reference::cases::{Grid, Random, AI_ESCARGOT, FIGURE_FIVE};
+use reference::cases::{bad, Grid, Random, AI_ESCARGOT, FIGURE_FIVE};
 use reference::clauses::clause_set;
+use reference::grid::{CELLS, VARIABLES};
 use reference::order::default_order;
 use reference::refusal::Refusal;
-use reference::{plain, plain_job, proved};
+use reference::{plain, plain_job, plain_search, proved};
+use std::fs::File;
 use std::hint::black_box;
+use std::process::{self, Command, Stdio};
 use std::time::Instant;
+use std::{env, fs, io};
 
 const ROUNDS: usize = 200;
 const REPETITIONS: usize = 15;
 
-/// How long one repetition of jobs takes, in nanoseconds, as far as whole rounds allow.
+/// How long one repetition on grids takes, in nanoseconds, as far as whole rounds allow.
 const REPETITION: f64 = 2e7;
 
-type Call = fn(u32, u32, &mut [i16]) -> u64;
-type Job = fn(&[u8], u32, &[i16], u32, &mut [u8]) -> Result<(u8, u32), Refusal>;
+/// How long qqwing gets for a set of grids, in nanoseconds, so that its start is of no account.
+const QQWING: f64 = 1e9;
+
+type ClauseCall = fn(u32, u32, &mut [i16]) -> u64;
+type SearchCall = fn(&[u8], &mut [u8], &mut [u8]) -> Result<u8, Refusal>;
+
+/// What a call on a grid answers: the outcome, the verdict or the number of completions, with the
+/// count of trials.
+type Answer = Result<(u8, u32), Refusal>;
 
 fn main() -> Result<(), String> {
     clauses()?;
@@ -39,7 +51,17 @@ fn main() -> Result<(), String> {
         jobs("figure 5", &figure_five, technique)?;
         jobs("generated", &generated, technique)?;
     }
-    Ok(())
+    let published = [&[*AI_ESCARGOT], &figure_five[..]].concat();
+    for (name, grids) in [("published", &published), ("generated", &generated)] {
+        searches(name, grids)?;
+        beside_qqwing(name, grids).map_err(|error| format!("qqwing: {error}"))?;
+        gradings(name, grids)?;
+    }
+    let bad = bad();
+    let timed = bad.iter().map(|grid| (search_time(&[*grid], 1), grid));
+    let slowest = timed.max_by(|(one, _), (other, _)| one.total_cmp(other));
+    let (_, slowest) = slowest.ok_or("the collection is empty")?;
+    searches(&format!("slowest of {} bad grids", bad.len()), &[*slowest])
 }
 
 /// The median of each side's times.
@@ -57,7 +79,7 @@ fn medians(mut proved: impl FnMut() -> f64, mut plain: impl FnMut() -> f64) -> [
 
 fn clauses() -> Result<(), String> {
     let sizes = [1, 2].map(|set| clause_set(set).map_or(0, |clauses| clauses.len() as u32));
-    let calls: [Call; 2] = [proved::packed_clause, plain::clause];
+    let calls: [ClauseCall; 2] = [proved::packed_clause, plain::clause];
     for (set, size) in (1..).zip(sizes) {
         for number in 0..size {
             let answers = calls.map(|call| {
@@ -104,67 +126,191 @@ fn clause_time(sizes: [u32; 2], call: impl Fn(u32, u32, &mut [i16]) -> u64) -> f
     start.elapsed().as_nanos() as f64 / calls
 }
 
+/// The times of a call on some grids, in nanoseconds a call.
+struct Times {
+    /// Calls a repetition.
+    calls: usize,
+    proved: f64,
+    plain: f64,
+    /// Trials a call.
+    trials: f64,
+}
+
+/// Checks that both sides give equal answers and bytes, then times them. The call writes a buffer
+/// of `length` bytes.
+fn times(
+    name: &str,
+    grids: &[Grid],
+    length: usize,
+    proved: impl Fn(&Grid, &mut [u8]) -> Answer,
+    plain: impl Fn(&Grid, &mut [u8]) -> Answer,
+) -> Result<Times, String> {
+    let mut trials = 0;
+    for grid in grids {
+        let (mut ours, mut theirs) = (vec![77; length], vec![77; length]);
+        let (proved, plain) = (proved(grid, &mut theirs), plain(grid, &mut ours));
+        if proved != plain || ours != theirs {
+            return Err(format!(
+                "{name}: proved {proved:?} and plain {plain:?}, or their buffers, differ"
+            ));
+        }
+        trials += proved.map_or(0, |(_, count)| count);
+    }
+    let rounds = REPETITION / (grids.len() as f64 * time(grids, length, &plain, 1));
+    let rounds = rounds.max(1.0) as usize;
+    let [proved, plain] = medians(
+        || time(grids, length, &proved, rounds),
+        || time(grids, length, &plain, rounds),
+    );
+    Ok(Times {
+        calls: rounds * grids.len(),
+        proved,
+        plain,
+        trials: f64::from(trials) / grids.len() as f64,
+    })
+}
+
+/// The nanoseconds of one call, over all grids in some rounds.
+fn time(
+    grids: &[Grid],
+    length: usize,
+    call: impl Fn(&Grid, &mut [u8]) -> Answer,
+    rounds: usize,
+) -> f64 {
+    let mut buffer = vec![0; length];
+    let start = Instant::now();
+    for _ in 0..rounds {
+        for grid in grids {
+            let _ = black_box(call(black_box(grid), black_box(&mut buffer)));
+        }
+    }
+    start.elapsed().as_nanos() as f64 / (rounds * grids.len()) as f64
+}
+
 /// Jobs of one technique on some grids, under the default order and no ceiling.
 fn jobs(name: &str, grids: &[Grid], technique: u32) -> Result<(), String> {
     let order = default_order();
-    let mut trials = 0;
-    for grid in grids {
-        let answers = [proved::job as Job, plain_job::job].map(|job| {
-            let mut marks = [77; 729];
-            let answer = job(grid, technique, &order, u32::MAX, &mut marks);
-            (answer, marks)
-        });
-        if answers[0] != answers[1] {
-            let [proved, plain] = answers.map(|(answer, _)| answer);
-            return Err(format!(
-                "technique {technique}, {name}: proved {proved:?} and plain {plain:?}, or their \
-                 marks, differ"
-            ));
-        }
-        trials += answers[0].0.map_or(0, |(_, count)| count);
-    }
-    let job_time = |job, rounds| job_time(grids, technique, &order, job, rounds);
-    let rounds = REPETITION / (grids.len() as f64 * job_time(plain_job::job, 1));
-    let rounds = rounds.max(1.0) as usize;
-    let [proved, plain] = medians(
-        || job_time(proved::job, rounds),
-        || job_time(plain_job::job, rounds),
-    );
+    let name = format!("technique {technique}, {name}");
+    let Times {
+        calls,
+        proved,
+        plain,
+        trials,
+    } = times(
+        &name,
+        grids,
+        VARIABLES,
+        |grid, marks| proved::job(grid, technique, &order, u32::MAX, marks),
+        |grid, marks| plain_job::job(grid, technique, &order, u32::MAX, marks),
+    )?;
     print!(
-        "bench: technique {technique}, {name}, {} jobs a repetition, median of {REPETITIONS}: \
-         proved {:.2} µs, plain {:.2} µs a job, ratio {:.2}",
-        rounds * grids.len(),
+        "bench: {name}, {calls} jobs a repetition, median of {REPETITIONS}: proved {:.2} µs, plain \
+         {:.2} µs a job, ratio {:.2}",
         proved / 1e3,
         plain / 1e3,
         proved / plain
     );
-    if trials > 0 {
-        let a_job = f64::from(trials) / grids.len() as f64;
+    if trials > 0.0 {
         print!(
             "; proved {:.0} ns, plain {:.0} ns a trial",
-            proved / a_job,
-            plain / a_job
+            proved / trials,
+            plain / trials
         );
     }
     println!();
     Ok(())
 }
 
-/// The nanoseconds of one job, over all grids in some rounds.
-fn job_time(grids: &[Grid], technique: u32, order: &[i16], job: Job, rounds: usize) -> f64 {
-    let mut marks = [0; 729];
-    let start = Instant::now();
-    for _ in 0..rounds {
-        for grid in grids {
-            let answer = job(
-                black_box(grid),
-                black_box(technique),
-                black_box(order),
-                u32::MAX,
-                black_box(&mut marks),
-            );
-            let _ = black_box(answer);
-        }
+/// A search that writes both completions into one buffer.
+fn searched(search: SearchCall, grid: &Grid, buffer: &mut [u8]) -> Answer {
+    let (first, second) = buffer.split_at_mut(CELLS);
+    search(grid, first, second).map(|completions| (completions, 0))
+}
+
+fn searches(name: &str, grids: &[Grid]) -> Result<(), String> {
+    let name = format!("searches, {name}");
+    let times = times(
+        &name,
+        grids,
+        2 * CELLS,
+        |grid, buffer| searched(proved::search, grid, buffer),
+        |grid, buffer| searched(plain_search::search, grid, buffer),
+    )?;
+    print_a_second(&name, &times);
+    Ok(())
+}
+
+/// Gradings under the default order and no ceiling.
+fn gradings(name: &str, grids: &[Grid]) -> Result<(), String> {
+    let order = default_order();
+    let name = format!("gradings, {name}");
+    let times = times(
+        &name,
+        grids,
+        CELLS,
+        |grid, completion| proved::grade(grid, &order, u32::MAX, completion),
+        |grid, completion| plain_search::grade(grid, &order, u32::MAX, completion),
+    )?;
+    print_a_second(&name, &times);
+    Ok(())
+}
+
+fn print_a_second(name: &str, times: &Times) {
+    println!(
+        "bench: {name}, {} a repetition, median of {REPETITIONS}: proved {:.1}, plain {:.1} a \
+         second ({:.2} ms and {:.2} ms each), ratio of the times {:.2}",
+        times.calls,
+        1e9 / times.proved,
+        1e9 / times.plain,
+        times.proved / 1e6,
+        times.plain / 1e6,
+        times.proved / times.plain
+    );
+}
+
+/// The nanoseconds of one proved search, over all grids in some rounds.
+fn search_time(grids: &[Grid], rounds: usize) -> f64 {
+    let search = |grid: &Grid, buffer: &mut [u8]| searched(proved::search, grid, buffer);
+    time(grids, 2 * CELLS, search, rounds)
+}
+
+/// The proved search and `qqwing --solve` on the same grids, as often as fills qqwing's time. Its
+/// start, its reading and its output count too. Of several completions it gives any one.
+fn beside_qqwing(name: &str, grids: &[Grid]) -> io::Result<()> {
+    if Command::new("qqwing").arg("--version").output().is_err() {
+        println!("bench: searches, {name}: qqwing is not installed");
+        return Ok(());
     }
-    start.elapsed().as_nanos() as f64 / (rounds * grids.len()) as f64
+    let once = qqwing_time(grids, 1)?;
+    let rounds = (QQWING / (once * grids.len() as f64)).max(1.0) as usize;
+    let qqwing = qqwing_time(grids, rounds)?;
+    let proved = search_time(grids, rounds);
+    println!(
+        "bench: searches, {name}, {} in one run: proved {:.1}, qqwing --solve {:.1} a second, ratio \
+         of the times {:.2}",
+        rounds * grids.len(),
+        1e9 / proved,
+        1e9 / qqwing,
+        proved / qqwing
+    );
+    Ok(())
+}
+
+/// The nanoseconds of qqwing for one grid, over all grids in some rounds, read from a file.
+fn qqwing_time(grids: &[Grid], rounds: usize) -> io::Result<f64> {
+    let lines: Vec<u8> = grids
+        .iter()
+        .flat_map(|grid| [grid, &b"\n"[..]].concat())
+        .collect();
+    let path = env::temp_dir().join(format!("reference-bench-{}", process::id()));
+    fs::write(&path, lines.repeat(rounds))?;
+    let start = Instant::now();
+    Command::new("qqwing")
+        .args(["--solve", "--one-line"])
+        .stdin(File::open(&path)?)
+        .stdout(Stdio::null())
+        .status()?;
+    let time = start.elapsed().as_nanos() as f64;
+    fs::remove_file(&path)?;
+    Ok(time / (rounds * grids.len()) as f64)
 }

@@ -1,7 +1,6 @@
 -- A case for each answer.
 use mathlib.Core.Path.{ap, sym, _∙_}
-use Prim.Native.Nat.{_+_, _%_}
-use Rattle.host.specs.Packed.{packedResult, packedJob}
+use Rattle.host.specs.Packed.{packedCounted, packedJob}
 use borrow.Author.Needs.{needs}
 use Rattle.host.proofs.pack_job.Statement.{statement}
 use Rattle.host.proofs.pack_job.Tie as tie
@@ -9,7 +8,7 @@ use Rattle.host.proofs.pack_job.Tie as tie
 returns : tie.Need-returns
 returns c =
     let a = c .before .before .before .a in
-    ap (λ x. x + a .given .0 .1 .0 % 281474976710656) (c .pack-result .ensures ∙ ap packedResult (c .before .outcome-number .ensures)) ∙ ap packedJob (sym (a .given .1))
+    c .pack-counted .ensures ∙ ap (λ x. packedCounted x (a .given .0 .1 .0)) (c .before .outcome-number .ensures) ∙ ap packedJob (sym (a .given .1))
 
 returns-2 : tie.Need-returns-2
 returns-2 c = c .pack-refusal .ensures ∙ ap packedJob (sym (c .before .before .a2 .given .1))
@@ -17,4 +16,4 @@ returns-2 c = c .pack-refusal .ensures ∙ ap packedJob (sym (c .before .before 
 pub pack-job-spec : {M : Type 1} → statement M
 pack-job-spec =
     tie.close
-    (tie.spec (λ c. search needs) (λ c κs. search needs) (λ c κs. search needs) (λ c. search needs) (λ c. search needs) (λ c. search needs) (λ c κs. search needs) returns returns-2)
+    (tie.spec (λ c. search needs) (λ c κs. search needs) (λ c κs. search needs) (λ c. search needs) (λ c κs. search needs) returns returns-2)

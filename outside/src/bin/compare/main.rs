@@ -1,15 +1,20 @@
 //! Compares the proved library with the reference: the clause call, the grid check, the completion
-//! test and the job call, each on well-formed and on broken input. A file of grids, one a line, may
-//! be named as the argument; jobs run on them too. It prints the number of cases of each kind and
-//! the first difference with its input; the exit status is 1 at any difference.
+//! test, jobs, searches and gradings, each on well-formed and on broken input. A file of grids, one a
+//! line, may be named as the argument; jobs, searches and gradings run on them too. It prints the
+//! number of cases of each kind and the first difference with its input; the exit status is 1 at any
+//! difference.
 
+mod gradings;
 mod jobs;
+mod lent;
+mod searches;
 
 use reference::cases::{named, Grid, Random};
 use reference::clauses;
 use reference::grid::{self, CELLS};
 use reference::proved;
 use reference::search::smallest_two;
+use std::collections::BTreeMap;
 use std::fmt::Debug;
 use std::process::ExitCode;
 use std::{env, fs};
@@ -19,6 +24,8 @@ struct Tally {
     cases: usize,
     differences: usize,
     first: Option<String>,
+    /// The number of calls by the reference's answer or refusal, where they are told apart.
+    answers: BTreeMap<u8, usize>,
 }
 
 impl Tally {
@@ -39,31 +46,48 @@ impl Tally {
     }
 }
 
+/// Rounds of generated grids, one of each kind a round.
+const ROUNDS: usize = 260;
+
 fn main() -> Result<ExitCode, String> {
     let lent = env::args().nth(1).map_or(Ok(Vec::new()), read_grids)?;
-    let jobs = jobs::jobs(&lent);
+    let mut grids = generated(&mut Random(4));
+    grids.extend(&lent);
     let tallies = [
-        clause_calls(),
-        grid_checks(),
-        completion_tests(),
-        jobs.tally,
+        ("clause calls", clause_calls()),
+        ("grid checks", grid_checks()),
+        ("completion tests", completion_tests()),
+        ("jobs by outcome or refusal", jobs::jobs(&grids)),
+        ("searches by answer or refusal", searches::searches(&grids)),
+        ("gradings by verdict or refusal", gradings::gradings(&grids)),
     ];
-    let [clauses, grids, completions, jobs_compared] = [0, 1, 2, 3].map(|kind| tallies[kind].cases);
-    let differences: usize = tallies.iter().map(|tally| tally.differences).sum();
-    println!(
-        "compare: {clauses} clause calls, {grids} grid checks, {completions} completion tests, \
-         {jobs_compared} jobs with {} lent grids, by outcome or refusal {:?}; \
-         {differences} differences",
-        lent.len(),
-        jobs.answers
-    );
-    Ok(match tallies.into_iter().find_map(|tally| tally.first) {
+    println!("compare, with {} lent grids:", lent.len());
+    for (name, tally) in &tallies {
+        println!("{} {name} {:?}", tally.cases, tally.answers);
+    }
+    let differences: usize = tallies.iter().map(|(_, tally)| tally.differences).sum();
+    println!("{differences} differences");
+    let first = tallies.into_iter().find_map(|(_, tally)| tally.first);
+    Ok(match first {
         None => ExitCode::SUCCESS,
         Some(first) => {
             println!("first difference: {first}");
             ExitCode::FAILURE
         }
     })
+}
+
+/// Grids with none, one and several completions, from few blanks to as many as can be.
+fn generated(random: &mut Random) -> Vec<Grid> {
+    let mut grids = Vec::new();
+    for blanks in (0..ROUNDS).map(|round| 20 + round % 62) {
+        grids.push(random.with_none(blanks));
+        grids.push(random.with_one(blanks));
+        grids.push(random.with_several(blanks));
+        let full = random.full();
+        grids.push(random.blanked(full, blanks));
+    }
+    grids
 }
 
 /// The grids of a file, one a line.

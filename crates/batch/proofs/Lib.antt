@@ -1,0 +1,5 @@
+pub mod Checks
+pub mod Parts
+pub mod Rows
+pub mod Calls
+pub mod Jobs

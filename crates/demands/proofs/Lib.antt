@@ -1,0 +1,10 @@
+pub mod Ends
+pub mod MarkBytes
+pub mod JobCalls
+pub mod Batches
+pub mod Jobs
+pub mod JobsCompared
+pub mod GradeCalls
+pub mod Reports
+pub mod GradingsCompared
+pub mod DemandThree

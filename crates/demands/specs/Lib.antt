@@ -1,0 +1,5 @@
+pub mod Jobs
+pub mod Batches
+pub mod Searches
+pub mod Gradings
+pub mod DemandThree

@@ -1,0 +1,10 @@
+pub mod ByteOrder
+pub mod Completions
+pub mod Found
+pub mod Marked
+pub mod Settling
+pub mod Left
+pub mod Branches
+pub mod Calls
+pub mod Grading
+pub mod GradeCalls

@@ -1,0 +1,4 @@
+pub mod Completions
+pub mod Search
+pub mod Call
+pub mod Grade
