@@ -17,7 +17,7 @@ use Rattle.closure.specs.Job.{End, solved, opened, stopped, contradiction, jobE
 use Rattle.closure.proofs.Job.{JobOk, job-ok}
 use Rattle.closure.proofs.Order.{order-covers}
 use Rattle.closure.proofs.ClauseSets.{well-formed}
-use Rattle.inference.specs.Order.{orderCheck}
+use Rattle.inference.specs.Order.{orderCheck, defaultCeiling}
 use Rattle.inference.specs.Call.{outcomeNumber, Given, finished, jobOf}
 use Rattle.demands.specs.Jobs.{Ran, RulesOf, IsGiven}
 use Rattle.inference.specs.declared.job.JobAnswer.the-variants.{Finished}
@@ -39,7 +39,7 @@ endOf r = jobEnd (clausesOf (r .technique .set)) (r .ceiling) (r .technique .tri
 
 -- it is as it should be, and what the job gave back is read off it
 pub record Ended (r : Ran) : Type 0 where
-  pub ok : JobOk (RulesOf (r .technique)) (IsGiven (r .grid)) 1062882 (endOf r)
+  pub ok : JobOk (RulesOf (r .technique)) (IsGiven (r .grid)) defaultCeiling (endOf r)
   pub outcome : outcomeOf (endOf r) ≡ outcomeNumber (r .outcome)
   pub count : countOf (endOf r) ≡ r .count
   pub marks : marksOf (endOf r) ≡ r .marks

@@ -16,7 +16,7 @@ use Rattle.closure.specs.Sets.{LiteralSet, Within, Least}
 use Rattle.closure.specs.Closure.{Rules}
 use Rattle.closure.specs.Closure as closure
 use Rattle.closure.specs.Marks.{has}
-use Rattle.inference.specs.Order.{orderCheck}
+use Rattle.inference.specs.Order.{orderCheck, defaultCeiling}
 use Rattle.inference.specs.Technique.{techniqueOf}
 use Rattle.inference.specs.Call.{jobOf}
 use Rattle.inference.specs.declared.job.JobAnswer.the-variants.{Finished}
@@ -101,7 +101,7 @@ pub record Answers (r : Ran) : Type 0 where
   pub one : IsSolved r → MarksOnly (r .grid) (r .marks)
   pub none : IsContradiction r → (b : List ℕ) → Legal (r .grid) b → ⊥
 
--- No count of one job passes 1,062,882. Techniques 1 and 2, which make no trials, count 0 and never stop.
+-- No count of one job passes 1,062,882, the default ceiling. Techniques 1 and 2, which make no trials, count 0 and never stop.
 pub record Counts (r : Ran) : Type 0 where
-  pub most : r .count ≤ 1062882
+  pub most : r .count ≤ defaultCeiling
   pub unit : r .technique .trials ≡ false → (r .count ≡ 0) × (IsStopped r → ⊥)

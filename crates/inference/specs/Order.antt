@@ -16,6 +16,10 @@ use Rattle.clauses.specs.Clauses.{range, over}
 abbrev pub defaultOrder : List ℤ
 defaultOrder = over (range 0 729) λ k. pos (suc k) ∷ negsuc k ∷ []
 
+-- the ceiling where none is named: no job makes more trials
+abbrev pub defaultCeiling : ℕ
+defaultCeiling = 1062882
+
 -- the place of the first entry that is zero or outside −729 to 729, or the length
 unfoldable pub firstNoLiteral : List ℤ → ℕ
 firstNoLiteral o = firstAt (λ l. not (isLiteral l)) o

@@ -4,7 +4,7 @@ use mathlib.Core.List.{List, [], _∷_, _++_}
 use Prim.Native.Nat.{ℕ, zero, suc, _+_, _/_, _%_}
 use lib.Dec.{ltb}
 use lib.ListN.{set}
-use Rattle.inference.specs.Order.{defaultOrder}
+use Rattle.inference.specs.Order.{defaultOrder, defaultCeiling}
 use Rattle.grading.specs.Search.{zeros}
 use Rattle.grading.specs.Grade.{gradeCall}
 use Rattle.grading.specs.declared.grade.GradeAnswer.{GradeAnswer}
@@ -34,7 +34,7 @@ shown n (Refused r) = ((field n 32 ++ (82 ∷ [])) ++ (32 ∷ [])) ++ field (r .
 
 -- the output line of line number n: the line is graded under the default order and the default ceiling
 unfoldable pub listed : ℕ → List ℕ → List ℕ
-listed n line = shown n (gradeCall line defaultOrder 1062882 zeros .0)
+listed n line = shown n (gradeCall line defaultOrder defaultCeiling zeros .0)
 
 -- bytes written from place `at` on
 unfoldable pub put : ℕ → List ℕ → List ℕ → List ℕ

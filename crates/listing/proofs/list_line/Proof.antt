@@ -1,7 +1,7 @@
 -- The line is graded, and its answer shown.
 use mathlib.Core.Path.{_≡_, ap, _∙_}
 use lib.ListN.{length}
-use Rattle.inference.specs.Order.{defaultOrder}
+use Rattle.inference.specs.Order.{defaultOrder, defaultCeiling}
 use borrow.Author.Needs.{needs}
 use Rattle.grading.specs.Search.{zeros}
 use Rattle.grading.specs.Grade.{gradeCall}
@@ -17,7 +17,7 @@ returns c =
     let s = d .before .before .before .before in
     let n = s .args .number in
     let line = s .args .line .now in
-    let e : g .grade .result ≡ gradeCall line defaultOrder 1062882 zeros .0 = ap (λ p. p .0) (g .grade .ensures) ∙ ap (λ o. gradeCall line o 1062882 zeros .0) (d .default-order .ensures) in
+    let e : g .grade .result ≡ gradeCall line defaultOrder defaultCeiling zeros .0 = ap (λ p. p .0) (g .grade .ensures) ∙ ap (λ o. gradeCall line o defaultCeiling zeros .0) (d .default-order .ensures) in
     (c .show .ensures .0 ∙ ap (λ a. length (shown n a)) e, c .show .ensures .1 ∙ ap (λ a. put 0 (shown n a) (s .args .out .now)) e, c .show .ensures .2)
 
 pub list-line-spec : {M : Type 1} → statement M
