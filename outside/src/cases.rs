@@ -63,16 +63,8 @@ pub fn named() -> Vec<Grid> {
 
 /// Grids that cost a search much: few givens, no completion, or the first only after long.
 pub fn bad() -> Vec<Grid> {
-    lines(include_str!("../bad-grids"))
-}
-
-/// Grids that cost the plain search seconds.
-pub fn slow() -> Vec<Grid> {
-    lines(include_str!("../slow-grids"))
-}
-
-fn lines(text: &str) -> Vec<Grid> {
-    text.lines()
+    include_str!("../bad-grids")
+        .lines()
         .map(|line| Grid::try_from(line.as_bytes()).expect("81 bytes a line"))
         .collect()
 }

@@ -1,8 +1,10 @@
 //! The search and the grading call by the steps of the proved ones, in plain Rust: the bench times
 //! the proved calls beside them, and `hunt` looks for grids that cost the search most. The search
-//! takes the unit closure over the extended set. Before it branches it tries each positive literal
-//! once and strikes those that fail; then it branches on the first open cell with its digits rising,
-//! so completions come in byte order.
+//! takes the unit closure over the extended set, and branches on the first open cell with its digits
+//! rising, so completions come in byte order. A branch is entered unless a test finds that it leaves
+//! nothing. The test first dives for a full grid. Else it tries each place, notes what the trial
+//! decides, and branches on the group that promises the smallest tree. A full grid that it comes upon
+//! is kept as a guess, and a branch that the guess agrees with needs no test.
 
 use crate::cases::Grid;
 use crate::grid::{self, CELLS};
@@ -10,17 +12,21 @@ use crate::plain_job::{check_order, closed_givens, closed_with, run, State};
 use crate::refusal::{demand, Refusal};
 
 /// The smallest completions, at most two, and what finding them took.
-#[derive(Default)]
 pub struct Search {
     pub found: Vec<Grid>,
-    /// States that were walked, whether they then branched or not.
+    /// States that were tested, whether the test then branched or not.
     pub nodes: usize,
     pub closures: usize,
     /// Places that the closures decided, one for a closure that is a contradiction: what the time
     /// goes with.
     pub decided: usize,
     most_closures: usize,
+    /// How often each group had all of its places refuted.
+    failures: [u32; GROUPS],
 }
+
+/// The cells, then each house for each digit.
+const GROUPS: usize = 324;
 
 impl Search {
     /// The search of a checked grid.
@@ -31,25 +37,23 @@ impl Search {
     /// The search that visits no further node once it has taken as many closures.
     pub fn within(grid: &[u8], most_closures: usize) -> Search {
         let mut search = Search {
-            most_closures,
+            found: Vec::new(),
+            nodes: 0,
             closures: 1,
-            ..Search::default()
+            decided: 0,
+            most_closures,
+            failures: [0; GROUPS],
         };
         if let Some(state) = closed_givens(grid, true) {
-            search.below(state);
+            if let Some(mut guess) = search.tested(state) {
+                search.explore(&state, &mut guess);
+            }
         }
         search
     }
 
     /// The completions of a state, as long as fewer than two are found.
-    fn below(&mut self, state: State) {
-        if self.closures >= self.most_closures {
-            return;
-        }
-        self.nodes += 1;
-        let Some(state) = self.walked(state) else {
-            return;
-        };
+    fn explore(&mut self, state: &State, guess: &mut State) {
         let true_digit = |cell| (9 * cell..9 * cell + 9).find(|&place| state.marks[place] == 1);
         let Some(open) = (0..CELLS).find(|&cell| true_digit(cell).is_none()) else {
             let digit = |cell| true_digit(cell).map_or(0, |place| b'1' + (place % 9) as u8);
@@ -58,21 +62,60 @@ impl Search {
         };
         for place in 9 * open..9 * open + 9 {
             if state.marks[place] == 0 && self.found.len() < 2 {
-                if let Some(next) = self.closed_with(&state, place as i16 + 1) {
-                    self.below(next);
+                if let Some(next) = self.closed_with(state, place as i16 + 1) {
+                    if guess.marks[place] != 1 {
+                        let Some(near) = self.tested(next) else {
+                            continue;
+                        };
+                        *guess = near;
+                    }
+                    self.explore(&next, guess);
                 }
             }
         }
     }
 
-    /// One walk of the positive literals as trials: where one fails, its negation joins. None for a
-    /// contradiction.
-    fn walked(&mut self, mut state: State) -> Option<State> {
+    /// None where a state leaves nothing, else a full grid that it leaves.
+    fn tested(&mut self, mut state: State) -> Option<State> {
+        self.nodes += 1;
+        if self.closures >= self.most_closures {
+            return None;
+        }
+        let full = self.dive(state);
+        if full.is_some() {
+            return full;
+        }
+        let mut weights = [0; 729];
         for place in 0..state.marks.len() {
-            let literal = place as i16 + 1;
-            if state.marks[place] == 0 && self.closed_with(&state, literal).is_none() {
-                state = self.closed_with(&state, -literal)?;
+            if state.marks[place] == 0 {
+                let literal = place as i16 + 1;
+                match self.closed_with(&state, literal) {
+                    None => state = self.closed_with(&state, -literal)?,
+                    Some(next) => weights[place] = weight(next.decided - state.decided),
+                }
             }
+        }
+        let Some(group) = lightest(&state, &weights, &self.failures) else {
+            return Some(state);
+        };
+        for place in places(group).filter(|&place| state.marks[place] == 0) {
+            if let Some(next) = self.closed_with(&state, place as i16 + 1) {
+                let full = self.tested(next);
+                if full.is_some() {
+                    return full;
+                }
+            }
+        }
+        self.failures[group] = (self.failures[group] + 1).min(1_000_000);
+        None
+    }
+
+    /// A full grid by the first digit left in each open cell, the cell with the fewest left first.
+    fn dive(&mut self, mut state: State) -> Option<State> {
+        while state.decided < state.marks.len() {
+            let cell = lightest(&state, &[1; 729], &[0; CELLS])?;
+            let place = places(cell).find(|&place| state.marks[place] == 0)?;
+            state = self.closed_with(&state, place as i16 + 1)?;
         }
         Some(state)
     }
@@ -83,6 +126,50 @@ impl Search {
         self.decided += next.map_or(1, |next| next.decided - state.decided);
         next
     }
+}
+
+/// How large the tree below a place is taken to be, by the number of places that its trial decides:
+/// half as large for each 16.
+fn weight(decided: usize) -> u32 {
+    let halvings = decided / 16;
+    if halvings < 32 {
+        ((32 - decided % 16) as u32 * (1 << 26)) >> halvings
+    } else {
+        0
+    }
+}
+
+/// The nine places of a group.
+fn places(group: usize) -> impl Iterator<Item = usize> {
+    let (house, digit) = (group.saturating_sub(CELLS) / 9, group % 9);
+    (0..9).map(move |k| match house / 9 {
+        _ if group < CELLS => 9 * group + k,
+        0 => 9 * (9 * house + k) + digit,
+        1 => 9 * (9 * k + house - 9) + digit,
+        _ => 9 * (27 * (house / 3 - 6) + 3 * (house % 3) + 9 * (k / 3) + k % 3) + digit,
+    })
+}
+
+/// The group with no true place, of as many as there are failures, whose undecided places weigh
+/// least, or None where each has a true one. A group weighs less for each time that it has failed.
+fn lightest(state: &State, weights: &[u32; 729], failures: &[u32]) -> Option<usize> {
+    let mut lightest = None;
+    let mut least = u64::MAX;
+    'groups: for (group, &failures) in failures.iter().enumerate() {
+        let mut sum = 0;
+        for place in places(group) {
+            match state.marks[place] {
+                0 => sum += u64::from(weights[place]),
+                1 => continue 'groups,
+                _ => {}
+            }
+        }
+        let here = sum / (u64::from(failures) + 1);
+        if here < least {
+            (lightest, least) = (Some(group), here);
+        }
+    }
+    lightest
 }
 
 /// The same answers, buffers and refusals as the search call.

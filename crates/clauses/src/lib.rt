@@ -3,7 +3,7 @@
 //     clause        the clause call: a set's clause by its number, refusals 43 to 45
 //     literal       literals as signed 16-bit numbers
 //     decode        a clause's group and places by arithmetic on its number
-mod decode;
+pub mod decode;
 pub mod literal;
 
 use grid::Refusal;

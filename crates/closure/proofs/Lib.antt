@@ -5,7 +5,6 @@ pub mod Marks
 pub mod Clauses
 pub mod Propagation
 pub mod Job
-pub mod Walk
 pub mod Ceiling
 pub mod Order
 pub mod Compare

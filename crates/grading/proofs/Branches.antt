@@ -22,7 +22,7 @@ use Rattle.closure.specs.Marks.{has, IsMarks}
 use Rattle.grading.specs.Completions.{those, Before, InOrder}
 use Rattle.grading.specs.Search.{isIn, left, Settles}
 use Rattle.grading.proofs.ByteOrder.{in-order-same, in-order-as, in-order-none, in-order-those, in-order-append}
-use Rattle.grading.proofs.Left.{Fits, Of, fixed, clash-fits, settled-fits, left-in-order}
+use Rattle.grading.proofs.Left.{Fits, Of, fixed, with-fits, clash-fits, settled-fits, left-in-order}
 
 -- the grids that the marks leave with one of the first d digits in a cell,
 abbrev pub below : List ℕ → ℕ → ℕ → List (List ℕ)
@@ -86,14 +86,12 @@ module _ (m : List ℕ) (i : IsMarks m) (c : ℕ) (h : c < 81) where
       Digit = With (has m) (pos (suc (9 * c + d)))
 
       digit-fits : (b : List ℕ) → Fits Digit b ↔ (Fits (Of m) b × (byte b c ≡ 49 + d))
-      digit-fits b = (
-        (λ f. (record { legal = f .legal; keeps = λ l y. f .keeps l (inl y) }, fixed Digit b f c d u (inr refl))),
-        λ w. record {
-          legal = w .0 .legal;
-          keeps = λ l y. ⊎-elim (w .0 .keeps l)
-              (λ e. subst (λ x. T (holds (truthOf b) x)) (sym e) (rw (truth-at b c d u) (eq-iff (byte b c) (49 + d) .1 (w .1)))) y;
-        },
-      )
+      digit-fits b =
+          let w = with-fits m (pos (suc (9 * c + d))) b in
+          let e = eq-iff (byte b c) (49 + d) in (
+            (λ f. let v = w .0 f in (v .0, e .0 (rw (truth-at b c d u) at (v .1)))),
+            λ v. w .1 (v .0, rw (truth-at b c d u) (e .1 (v .1))),
+          )
 
       pub branch-none : Contradiction (Least (Rules (clausesOf Extended) true) Digit) → below m c (d + 1) ≡ below m c d
       branch-none k =

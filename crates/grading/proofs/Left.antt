@@ -2,7 +2,7 @@
 -- the marks say the one full grid that they leave; else its completions are those with each digit of the first open cell, one digit after the other.
 -- Assumes nothing.
 use mathlib.Core.Path.{_≡_, refl, sym, subst, _∙_}
-use mathlib.Core.Logic.{⊎-elim, _↔_}
+use mathlib.Core.Logic.{inl, inr, ⊎-elim, _↔_}
 use mathlib.Core.Bool.{Bool, true, false, cond, not}
 use mathlib.Core.List.{List, [], _∷_, List·Memᴰ, List·Memᴰ·head, List·Memᴰ·tail, List·Memᴰ·cases-cons, List·Memᴰ·eq-of-singleton}
 use Prim.Native.Nat.{ℕ, zero, suc, _+_, _*_, _-_, _<_}
@@ -28,7 +28,7 @@ use Rattle.clauses.proofs.Members.{member-iff, givens-iff, givens-true-iff}
 use Rattle.clauses.proofs.Proper.{Proper, trueIn, one-of-iff, not-both-iff, satisfying-proper}
 use Rattle.clauses.proofs.ModelsAreCompletions.{truth-at, proper-truth, proper-legal, models-are-completions}
 use Rattle.closure.specs.Sets.{Holds, Least}
-use Rattle.closure.specs.Closure.{Contradiction, UnitClosed, Rules}
+use Rattle.closure.specs.Closure.{Contradiction, With, UnitClosed, Rules}
 use Rattle.closure.specs.Marks.{has, IsMarks}
 use Rattle.closure.proofs.Closure.{model-rules, model-consistent}
 use Rattle.closure.proofs.Marks.{has-single, has-literal}
@@ -83,10 +83,11 @@ left-in-order m i =
     (λ b. let a = agrees-iff m i b in ((λ w. record { legal = w .0; keeps = a .0 (w .1) }), λ f. (f .legal, a .1 (f .keeps))))
 
 module _ (G : ℤ → Type 0) where
-  model : (b : List ℕ) → Fits G b → (c : Clause) → List·Memᴰ c cs → Satisfies (truthOf b) c
+  -- a grid that fits is a model,
+  pub model : (b : List ℕ) → Fits G b → (c : Clause) → List·Memᴰ c cs → Satisfies (truthOf b) c
   model b f = models-are-completions Extended [] .models b (f .legal) .clauses
 
-  -- no grid fits a contradiction,
+  -- so that no grid fits a contradiction,
   pub clash-fits : Contradiction (Least (Rules cs true) G) → (b : List ℕ) → Fits G b → ⊥
   clash-fits k b f = model-consistent (truthOf b) cs (model b f) true G (f .keeps) k
 
@@ -96,6 +97,13 @@ module _ (G : ℤ → Type 0) where
     (λ f. record { legal = f .legal; keeps = λ l y. s .within l y (holds (truthOf b)) (model-rules (truthOf b) cs (model b f) true) (f .keeps) }),
     λ f. record { legal = f .legal; keeps = λ l g. f .keeps l (s .holds l g) },
   )
+
+-- a grid fits marks with a literal more where it fits the marks and has the literal
+pub with-fits : (m : List ℕ) (l : ℤ) (b : List ℕ) → Fits (With (has m) l) b ↔ (Fits (Of m) b × T (holds (truthOf b) l))
+with-fits m l b = (
+  (λ f. (record { legal = f .legal; keeps = λ x y. f .keeps x (inl y) }, f .keeps l (inr refl))),
+  λ w. record { legal = w .0 .legal; keeps = λ x y. ⊎-elim (w .0 .keeps x) (λ e. subst (λ k. T (holds (truthOf b) k)) (sym e) (w .1)) y },
+)
 
 -- from marks that are settled
 module _ (m : List ℕ) (i : IsMarks m) where

@@ -3,6 +3,7 @@ pub mod Completions
 pub mod Found
 pub mod Marked
 pub mod Settling
+pub mod Refuting
 pub mod Left
 pub mod Branches
 pub mod Calls

@@ -2,7 +2,7 @@
 use mathlib.Core.Path.{_≡_}
 use mathlib.Core.Bool.{Bool, true, cond, not}
 use mathlib.Core.List.{List, []}
-use Prim.Native.Nat.{ℕ, suc, _+_, _*_, min}
+use Prim.Native.Nat.{ℕ, suc, _+_, _*_, _≤_, min}
 use lib.Dec.{eqb}
 use lib.IntN.{ℤ, pos}
 use lib.ListN.{length, getD, replicate}
@@ -17,8 +17,8 @@ use Rattle.inference.specs.Order.{leastFrom}
 use Rattle.inference.specs.Steps.{MarksOk}
 use Rattle.grading.specs.Completions.{those, completions}
 use Rattle.grading.specs.declared.search.Found.{Found}
-use Rattle.grading.specs.declared.search.Settled.{Settled}
-use Rattle.grading.specs.declared.search.Settled.the-variants.{Clash, Decided}
+use Rattle.grading.specs.declared.branch.Settled.{Settled}
+use Rattle.grading.specs.declared.branch.Settled.the-variants.{Clash, Decided}
 
 -- 81 zero bytes: what stands for no completion
 abbrev pub zeros : List ℕ
@@ -71,3 +71,14 @@ pub record Settles (G : ℤ → Type 0) (m : List ℕ) : Type 0 where
 abbrev pub SettledOk : (ℤ → Type 0) → List ℕ → Settled → Type 0
 SettledOk G m Clash = Contradiction (Least (Rules (clausesOf Extended) true) G)
 SettledOk G m (Decided d) = Settles G m × (d ≡ decided m)
+
+-- What trials may do to marks: nothing is pending, no fewer variables are decided, and what was left is left.
+pub record Weighs (m m' : List ℕ) : Type 0 where
+  pub marks : MarksOk Extended m'
+  pub more : decided m ≤ decided m'
+  pub same : left m ≡ left m'
+
+-- they show that nothing is left, or leave such marks, with the number that they decide
+abbrev pub WeighedOk : List ℕ → List ℕ → Settled → Type 0
+WeighedOk m m' Clash = left m ≡ []
+WeighedOk m m' (Decided d) = Weighs m m' × (d ≡ decided m')

@@ -1,31 +1,24 @@
-// The complete search: branching on the first open cell, digits rising, so that completions are found in byte order. The marks are settled
-// before each branch, and what that does is said by what it may do: the search stands on no more.
-use clauses::ClauseSet;
-use clauses::literal;
+// The complete search: branching on the first open cell, digits rising, so that completions are found in byte order. A branch is entered
+// unless a test refutes it; of that test only this is used, that what it refutes leaves nothing.
+use crate::branch::Settled;
+use crate::branch::assume;
+use crate::branch::start;
+use crate::refute::refuted;
 use grid::Checked;
 use grid::Refusal;
 use grid::check_grid;
 use grid::copy::copy_out;
-use inference::job::begin;
-use inference::propagation::Reached;
-use inference::trial::End;
-use inference::trial::Pass;
-use inference::trial::close_with;
-use inference::trial::walk;
 ghost use mathlib.Core.Path.{_≡_};
-ghost use mathlib.Core.List.{List, List·Memᴰ, _++_};
-ghost use Prim.Native.Nat.{ℕ, suc, _+_, _*_, _<_};
-ghost use lib.Dec.{T};
-ghost use lib.IntN.{pos};
+ghost use mathlib.Core.Bool.{true};
+ghost use mathlib.Core.List.{List, _++_};
+ghost use Prim.Native.Nat.{ℕ, _<_};
 ghost use lib.ListN.{length};
 ghost use Rattle.grid.specs.Refusals.{refusal};
-ghost use Rattle.clauses.specs.Models.{givens};
 ghost use Rattle.clauses.specs.declared.ClauseSet.the-variants.{Extended};
-ghost use Rattle.closure.specs.Closure.{With};
-ghost use Rattle.closure.specs.Marks.{has, blank, decided as decisions};
-ghost use Rattle.inference.specs.Steps.{MarksOk, Literals};
+ghost use Rattle.closure.specs.Marks.{decided as decisions};
+ghost use Rattle.inference.specs.Steps.{MarksOk};
 ghost use Rattle.grading.specs.Completions.{completions};
-ghost use Rattle.grading.specs.Search.{foundOf, isOpen, firstOpen, digitIn, digitsIn, left, SettledOk};
+ghost use Rattle.grading.specs.Search.{foundOf, isOpen, firstOpen, digitIn, digitsIn, left};
 ghost use Rattle.grading.specs.Call.{searchCall};
 ghost use Rattle.grading.specs.declared.search.SearchAnswer.the-variants.{Refused};
 
@@ -127,111 +120,68 @@ fn digits_in(marks: &[u8; 729]) -> [u8; 81]
     bytes
 }
 
-// What closing some literals comes to: a contradiction, or marks, with the number of variables that they decide.
-pub enum Settled {
-    Clash,
-    Decided(usize),
-}
-
-// The unit closure of a grid's givens.
-fn start(marks: &mut [u8; 729], grid: &[u8]) -> Settled
-    requires { ⌜ (now marks ≡ blank) × (length (now grid) ≡ 81) ⌝ }
-    ensures { λ r. ⌜ SettledOk (λ l. List·Memᴰ l (givens (now (grid .entry)))) (now (marks .exit)) r ⌝ }
+// Whether marks are shown to leave nothing. Where the guess, a full grid, agrees with them at the place that they were given last, they need no
+// test; where they are tested and something is left, it becomes the guess.
+fn ruled_out(
+    marks: &[u8; 729],
+    decided: usize,
+    guess: &mut [u8; 729],
+    failures: &mut [u32; 324],
+    place: usize,
+) -> bool
+    requires { ⌜ MarksOk Extended (now marks) × (decided ≡ decisions (now marks)) × (place < 729) ⌝ }
+    ensures { λ r. ⌜ (r ≡ true → left (now (marks .entry)) ≡ List.[]) ⌝ }
 {
-    let begun = begin(marks, ClauseSet::Extended, grid);
-    match begun {
-        Reached::Clash => Settled::Clash,
-        Reached::Tail(decided) => Settled::Decided(decided),
+    if guess[place] == 1 {
+        return false;
     }
+    let mut near = *marks;
+    if refuted(&mut near, decided, failures) {
+        return true;
+    }
+    *guess = near;
+    false
 }
 
-// The unit closure of marks with one place more true.
-fn assume(marks: &mut [u8; 729], decided: usize, place: usize) -> Settled
-    requires { ⌜ MarksOk Extended (now marks) × (decided ≡ decisions (now marks)) × (place < 729) × (T (has (now marks) (pos (suc place))) → ⊥) ⌝ }
-    ensures { λ r. ⌜ SettledOk (With (has (now (marks .entry))) (pos (suc place))) (now (marks .exit)) r ⌝ }
-{
-    if marks[place] == 2 {
-        return Settled::Clash;
-    }
-    let reached = close_with(marks, ClauseSet::Extended, literal::positive(place));
-    match reached {
-        Reached::Clash => Settled::Clash,
-        Reached::Tail(more) => Settled::Decided(decided + more),
-    }
-}
-
-// A ceiling that no walk of 729 trials comes to.
-const NO_CEILING: u32 = 4294967295;
-
-// What is done before a branch: one walk of trials, if there is anything to try.
-fn settle(marks: &mut [u8; 729], decided: usize, order: &[i16]) -> Settled
-    requires { ⌜ MarksOk Extended (now marks) × (decided ≡ decisions (now marks)) × Literals (now order) ⌝ }
-    ensures { λ r. ⌜ SettledOk (λ l. T (has (now (marks .entry)) l)) (now (marks .exit)) r ⌝ }
-{
-    if decided == 729 {
-        return Settled::Decided(decided);
-    }
-    let pass = walk(marks, decided, ClauseSet::Extended, order, NO_CEILING, 0);
-    match pass {
-        Pass::Walked(known, _, _) => Settled::Decided(known),
-        Pass::Ended(known, end) => match end {
-            End::Contradiction(_) => Settled::Clash,
-            _ => Settled::Decided(known),
-        },
-    }
-}
-
-// All that the marks leave: they are settled, then each digit of the first open cell is tried, until two completions are found. Each branch
-// has fewer cells open.
-fn explore(marks: &mut [u8; 729], decided: usize, order: &[i16]) -> Found
-    requires { ⌜ MarksOk Extended (now marks) × (decided ≡ decisions (now marks)) × Literals (now order) ⌝ }
+// All that the marks leave: each digit of the first open cell is tried, until two completions are found. Each branch has fewer cells open.
+fn explore(
+    marks: &[u8; 729],
+    decided: usize,
+    guess: &mut [u8; 729],
+    failures: &mut [u32; 324],
+) -> Found
+    requires { ⌜ MarksOk Extended (now marks) × (decided ≡ decisions (now marks)) ⌝ }
     ensures { λ r. ⌜ r ≡ foundOf (left (now (marks .entry))) ⌝ }
 {
-    let settled = settle(marks, decided, order);
-    match settled {
-        Settled::Clash => none(),
-        Settled::Decided(known) => {
-            let cell = first_open(marks);
-            if cell == 81 {
-                let first = digits_in(marks);
-                return Found {
-                    count: 1,
-                    first,
-                    second: [0u8; 81],
-                };
-            }
-            let mut found = none();
-            let mut d = 0;
-            while d < 9 {
-                let mut next = *marks;
-                let assumed = assume(&mut next, known, 9 * cell + d);
-                match assumed {
-                    Settled::Clash => {}
-                    Settled::Decided(next_known) => {
-                        found = followed(found, explore(&mut next, next_known, order));
-                        if found.count == 2 {
-                            return found;
-                        }
+    let cell = first_open(marks);
+    if cell == 81 {
+        let first = digits_in(marks);
+        return Found {
+            count: 1,
+            first,
+            second: [0u8; 81],
+        };
+    }
+    let mut found = none();
+    let mut digit = 0;
+    while digit < 9 {
+        let place = 9 * cell + digit;
+        let mut next = *marks;
+        let assumed = assume(&mut next, decided, place);
+        match assumed {
+            Settled::Clash => {}
+            Settled::Decided(known) => {
+                if !ruled_out(&next, known, guess, failures, place) {
+                    found = followed(found, explore(&next, known, guess, failures));
+                    if found.count == 2 {
+                        return found;
                     }
                 }
-                d += 1;
             }
-            found
         }
+        digit += 1;
     }
-}
-
-// The 729 positive literals.
-fn positives() -> [i16; 729]
-    ensures { λ r. ⌜ Literals r ⌝ }
-{
-    let mut order = [0i16; 729];
-    let mut k = 0;
-    while k < 729 {
-        order[k] = literal::positive(k);
-        k += 1;
-    }
-    order
+    found
 }
 
 // The completions of a grid of 81 bytes.
@@ -244,8 +194,12 @@ pub fn find(grid: &[u8]) -> Found
     match started {
         Settled::Clash => none(),
         Settled::Decided(decided) => {
-            let order = positives();
-            explore(&mut marks, decided, &order)
+            let mut guess = marks;
+            let mut failures = [0u32; 324];
+            if refuted(&mut guess, decided, &mut failures) {
+                return none();
+            }
+            explore(&marks, decided, &mut guess, &mut failures)
         }
     }
 }

@@ -117,7 +117,7 @@ fn next(
 }
 
 // A pass along the order.
-pub fn walk(
+fn walk(
     marks: &mut [u8; 729],
     decided: usize,
     set: ClauseSet,

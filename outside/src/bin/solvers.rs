@@ -4,7 +4,7 @@
 //! first completion blocked it must be satisfiable exactly when the search finds several. The exit
 //! status is 1 at any difference.
 
-use reference::cases::{bad, named, slow, Grid, Random};
+use reference::cases::{bad, named, Grid, Random};
 use reference::dimacs::{blocking, read_model, write};
 use reference::grid::is_completion;
 use reference::search::smallest_two;
@@ -55,7 +55,7 @@ fn main() -> ExitCode {
 
 fn grids() -> Vec<Grid> {
     let mut random = Random(1);
-    let mut grids = [named(), bad(), slow()].concat();
+    let mut grids = [named(), bad()].concat();
     for blanks in (0..GENERATED_OF_EACH_KIND).map(|round| 24 + round) {
         grids.push(random.with_none(blanks));
         grids.push(random.with_one(blanks));

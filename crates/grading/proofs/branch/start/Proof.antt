@@ -6,8 +6,8 @@ use Rattle.closure.specs.Marks.{blank}
 use mathlib.Core.List.{List·Memᴰ}
 use Rattle.inference.proofs.Givens.{begun-state}
 use Rattle.grading.proofs.Settling.{clash-settles, closure-settles, givens-close}
-use Rattle.grading.proofs.search.start.Statement.{statement}
-use Rattle.grading.proofs.search.start.Tie as tie
+use Rattle.grading.proofs.branch.start.Statement.{statement}
+use Rattle.grading.proofs.branch.start.Tie as tie
 
 returns : tie.Need-returns
 returns c =

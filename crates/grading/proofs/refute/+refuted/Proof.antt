@@ -1,0 +1,182 @@
+-- Each trial and each branch leaves the marks with more decided. Where all nine places of a group are refuted, nothing is left; every other
+-- answer promises nothing.
+use mathlib.Core.Path.{_≡_, refl, subst, _∙_}
+use mathlib.Core.Logic.{inl, inr, ⊎-elim}
+use mathlib.Core.Bool.{true}
+use mathlib.Core.List.{List, []}
+use Prim.Native.Nat.{ℕ, suc, _+_, _-_, _≤_, _<_}
+use native.Mathlib.Decide.{decLt}
+use native.Mathlib.Omega.{arith}
+use borrow.Author.Needs.{needs}
+use borrow.Author.Tests.{not-false}
+use borrow.Fn.Kinds.{In}
+use borrow.Fn.PlainCycle.{Measures, is, falls, and}
+use lib.Dec.{T}
+use Rattle.grid.proofs.Completion.{eq-iff}
+use lib.IntN.{ℤ, pos}
+use Rattle.clauses.specs.Shape.{placeOf}
+use Rattle.closure.specs.Closure.{With}
+use Rattle.closure.specs.Marks.{has, decided as decisions}
+use Rattle.closure.proofs.Marks.{decided-grows, decided-bounded}
+use Rattle.clauses.proofs.decode.place.Reads as place-reads
+use Rattle.grading.specs.Search.{left, Settles, SettledOk, Weighs, WeighedOk}
+use Rattle.grading.specs.declared.branch.Settled.the-variants.{Decided}
+use Rattle.grading.proofs.Refuting.{Refuted, clash-refutes, none-refutes, group-refutes, weighs-none, not-refuted}
+use Rattle.grading.proofs.refute.refuted.Reads as refuted
+use Rattle.grading.proofs.refute.refuted.Kinds as refuted-kinds
+use Rattle.grading.proofs.refute.+refuted.Lts-refuted as lts
+use Rattle.grading.proofs.branch.assume.Reads as assume-reads
+use Rattle.grading.proofs.refute.counted.Reads as counted-reads
+use Rattle.grading.proofs.refute.dive.Reads as dive-reads
+use Rattle.grading.proofs.refute.group_at.Reads as group-at-reads
+use Rattle.grading.proofs.refute.lightest.Reads as lightest-reads
+use Rattle.grading.proofs.refute.weigh.Reads as weigh-reads
+use Rattle.grading.proofs.refute.+refuted.{statement}
+use Rattle.grading.proofs.refute.+refuted.Tie.{close}
+
+-- the number of undecided variables falls
+abbrev μ-refuted : Measures 2 refuted-kinds.ps ℕ
+μ-refuted κs a = 729 - decisions (a .0 .now)
+
+-- what a call is given at the measure t, and what a call below t asks
+abbrev refuted-at : ℕ → In 2 refuted-kinds.ps
+refuted-at t = and 2 refuted-kinds.ps (is 2 refuted-kinds.ps μ-refuted t) refuted.Pre
+
+abbrev refuted-below : ℕ → In 2 refuted-kinds.ps
+refuted-below t = and 2 refuted-kinds.ps (falls 2 refuted-kinds.ps _<_ μ-refuted t) refuted.Pre
+
+-- what the callees ask and give
+abbrev calls : ℕ → lts.Claims
+calls t = (
+  dive-reads.Asked,
+  dive-reads.Learnt,
+  weigh-reads.Asked,
+  weigh-reads.Learnt,
+  lightest-reads.Asked,
+  lightest-reads.Learnt,
+  group-at-reads.Asked,
+  group-at-reads.Learnt,
+  place-reads.Asked,
+  place-reads.Learnt,
+  assume-reads.Asked,
+  assume-reads.Learnt,
+  refuted-below t,
+  refuted.Post,
+  counted-reads.Asked,
+  counted-reads.Learnt,
+)
+
+-- the first k places of the group are refuted
+abbrev Inv : lts.InvT-loop
+Inv marks₀ decided failures₀ known i group k₀ marks failures k =
+    (k ≤ 9) × Weighs marks₀ marks × (known ≡ decisions marks) × ((j : ℕ) → j < k → Refuted marks (placeOf group j))
+
+abbrev μ-loop : lts.MeasureT-loop
+μ-loop marks₀ decided failures₀ known i group k₀ marks failures k = 9 - k
+
+-- where the group is chosen
+module _ (t : ℕ) (c : lts.After-group-at (calls t) (refuted-at t) refuted.Post Inv μ-loop) where
+  abbrev told : lts.After-weighed (calls t) (refuted-at t) refuted.Post Inv μ-loop
+  told = c .before .before .before .before .before .before .before
+
+  abbrev first : lts.Start (calls t) (refuted-at t) refuted.Post Inv μ-loop
+  first = told .before .before .before .before .before .before .before .before .before
+
+  -- the marks as they are weighed
+  abbrev n : List ℕ
+  n = told .before .before .weigh .last .0
+
+  weighed : Weighs (first .args .marks .now) n × (told .weighed .given .0 .0 ≡ decisions n)
+  weighed = subst (WeighedOk (first .args .marks .now) n) (told .weighed .given .1) (told .before .before .weigh .ensures)
+
+-- a place that is true ends the test
+not-true : (t : ℕ) (c : lts.After-next2 (calls t) (refuted-at t) refuted.Post Inv μ-loop) → T (has (c .before .before .before .before .before .before .loop .marks) (pos (suc (c .before .before .before .before .place .result)))) → ⊥
+unfolding has
+not-true t c y = c .before .before .if3 .left (eq-iff _ 1 .0 y)
+
+-- where a place has been assumed
+module _ (t : ℕ) (c : lts.After-assume (calls t) (refuted-at t) refuted.Post Inv μ-loop) where
+  abbrev node : lts.After-group-at (calls t) (refuted-at t) refuted.Post Inv μ-loop
+  node = c .before .before .before .before .before .before .before .before
+
+  abbrev m : List ℕ
+  m = c .before .before .before .before .before .before .before .loop .marks
+
+  abbrev k : ℕ
+  k = c .before .before .before .before .before .before .before .loop .k
+
+  abbrev inv : (k ≤ 9) × Weighs (n t node) m × (told t node .weighed .given .0 .0 ≡ decisions m)
+      × ((j : ℕ) → j < k → Refuted m (placeOf (node .group-at .result) j))
+  inv = c .before .before .before .before .before .before .before .loop .inv
+
+  abbrev p : ℕ
+  p = c .before .before .before .before .before .place .result
+
+  abbrev next : List ℕ
+  next = c .assume .last .0
+
+  -- the marks with the place
+  abbrev Place : ℤ → Type 0
+  Place = With (has m) (pos (suc p))
+
+  -- the place that is refuted is the k-th of the group
+  at-place : Refuted m p → Refuted m (placeOf (node .group-at .result) k)
+  at-place = subst (Refuted m) (c .before .before .before .before .before .place .ensures .0)
+
+  module _ (d : ℕ) (e : c .assume .result ≡ Decided d) where
+    assumed : Settles Place next × (d ≡ decisions next)
+    assumed = subst (SettledOk Place next) e (c .assume .ensures)
+
+    more : decisions m < decisions next
+    more = decided-grows m next (λ l y. assumed .0 .holds l (inl y)) (pos (suc p)) (c .before .before .before .before .before .place .ensures .1) (assumed .0 .holds (pos (suc p)) (inr refl)) (not-true t (c .before))
+
+loop-holds : (t : ℕ) → lts.Need-loop-holds (calls t) (refuted-at t) refuted.Post Inv μ-loop
+loop-holds t c = (omega arith, weighs-none (n t c) (weighed t c .0 .marks), weighed t c .1, λ j h. absurd (omega (arith, h)))
+
+place-requires : (t : ℕ) → lts.Need-place-requires (calls t) (refuted-at t) refuted.Post Inv μ-loop
+place-requires t c κs = (c .before .before .group-at .ensures, omega (arith, c .loop-test .taken))
+
+assume-requires : (t : ℕ) → lts.Need-assume-requires (calls t) (refuted-at t) refuted.Post Inv μ-loop
+assume-requires t c κs =
+    let l = c .before .before .before .before .before .before .loop in
+    (l .inv .1 .marks, l .inv .2, c .before .before .before .before .place .ensures .1, not-true t c)
+
+refuted-requires : (t : ℕ) → lts.Need-refuted-requires (calls t) (refuted-at t) refuted.Post Inv μ-loop
+refuted-requires t c κs =
+    let a = c .before .before .before .before .before in
+    let w = c .before .before .before .assumed .given in
+    let s = assumed t a (w .0 .0) (w .1) in
+    (omega (arith, first t (node t a) .pre .0, weighed t (node t a) .0 .more, inv t a .1 .more, more t a (w .0 .0) (w .1), decided-bounded (next t a)), (s .0 .marks, s .1))
+
+loop-again : (t : ℕ) → lts.Need-loop-again (calls t) (refuted-at t) refuted.Post Inv μ-loop
+loop-again t c =
+    let a = c .before in
+    let here =
+    at-place t a (⊎-elim
+    (λ w. clash-refutes (m t a) (p t a) (subst (SettledOk (Place t a) (next t a)) (w .1 .given .1) (a .assume .ensures)))
+    (λ w. none-refutes (m t a) (p t a) (next t a) (assumed t a (w .1 .given .0 .0) (w .1 .given .1) .0) (w .5 .ensures (not-false _ (w .6 .left)))) (c .match2 .came)) in (
+      omega arith,
+      inv t a .1,
+      inv t a .2,
+      λ j h. elim (decLt j (k t a)) [ yes l ↦ inv t a .3 j l | no f ↦ subst (λ x. Refuted (m t a) (placeOf (node t a .group-at .result) x)) (omega arith) here ],
+    )
+
+returns-5 : (t : ℕ) → lts.Need-returns-5 (calls t) (refuted-at t) refuted.Post Inv μ-loop
+returns-5 t c e =
+    let w = c .before .before in
+    subst (WeighedOk (w .before .before .before .before .before .before .before .args .marks .now) (w .weigh .last .0)) (c .enum-told .given .1) (w .weigh .ensures)
+
+returns-6 : (t : ℕ) → lts.Need-returns-6 (calls t) (refuted-at t) refuted.Post Inv μ-loop
+returns-6 t c e =
+    let o = c .before .before in
+    let l = o .before .loop in
+    let g = o .before .before in
+    weighed t g .0 .same ∙ l .inv .1 .same
+    ∙ group-refutes (l .marks) (l .inv .1 .marks .marks) (g .group-at .result) (g .group-at .ensures) (λ j h. l .inv .3 j (omega (arith, l .inv .0, o .loop-test .left)))
+
+pub +refuted-spec : {M : Type 1} → statement M
++refuted-spec = close μ-refuted λ t. lts.spec (calls t) (refuted-at t) refuted.Post Inv μ-loop
+    (λ c κs. search needs) (λ c. not-refuted) (λ c κs. search needs) (λ c. search needs) (λ c. search needs) (λ c κs. search needs) (λ c. not-refuted) (λ c κs. search needs)
+    (loop-holds t) (place-requires t) (λ c. search needs) (λ c. not-refuted) (assume-requires t) (λ c. search needs) (λ c. search needs) (refuted-requires t) (λ c. not-refuted)
+    (λ c. search needs) (λ c. search needs) (loop-again t) (λ c. search needs) (λ c. search needs) (λ c κs. search needs) (λ c. search needs) (λ c. search needs) (returns-5 t)
+    (returns-6 t)

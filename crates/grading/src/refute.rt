@@ -1,0 +1,237 @@
+// A test whether marks leave no legal full grid. It is a search of its own, which needs one full grid and not the smallest, so that it may
+// branch where the tree looks smallest: on any group of nine places of which a full grid makes one true. First it dives for a full grid; then
+// each place is tried, and what the trial decides tells how large the tree below it may be. All that is promised is that marks which are
+// refuted leave nothing.
+use crate::branch::Settled;
+use crate::branch::assume;
+use crate::branch::join;
+use clauses::Group;
+use clauses::decode::place;
+use clauses::literal;
+ghost use mathlib.Core.Path.{_≡_};
+ghost use mathlib.Core.Bool.{true};
+ghost use mathlib.Core.List.{List};
+ghost use Prim.Native.Nat.{_<_, _≤_};
+ghost use Rattle.clauses.specs.Shape.{IsGroup};
+ghost use Rattle.clauses.specs.declared.ClauseSet.the-variants.{Extended};
+ghost use Rattle.closure.specs.Marks.{decided as decisions};
+ghost use Rattle.inference.specs.Steps.{MarksOk};
+ghost use Rattle.grading.specs.Search.{left, WeighedOk};
+
+// How many groups there are: the cells, then each house for each digit.
+const GROUPS: usize = 324;
+
+// The groups by number.
+fn group_at(i: usize) -> Group
+    requires { ⌜ i < 324 ⌝ }
+    ensures { λ r. ⌜ IsGroup r ⌝ }
+{
+    if i < 81 {
+        Group::Cell(i)
+    } else {
+        Group::House((i - 81) / 9, i % 9)
+    }
+}
+
+fn wide(n: u32) -> u64
+    ensures { λ r. ⌜ r < 4294967296 ⌝ }
+{
+    n as u64
+}
+
+// More than any nine places weigh.
+const HEAVIEST: u64 = 18446744073709551615;
+
+// What the undecided places of a group weigh, less for each time that it has failed, so that the same few groups are tried first; where a
+// place is true, there is no choice to be made.
+fn load(marks: &[u8; 729], weights: &[u32; 729], group: Group, failures: u32) -> u64
+    requires { ⌜ IsGroup group ⌝ }
+{
+    let mut sum = 0u64;
+    let mut j = 0;
+    while j < 9 {
+        let p = place(group, j);
+        if marks[p] == 1 {
+            return HEAVIEST;
+        }
+        if marks[p] == 0 {
+            sum += wide(weights[p]);
+        }
+        j += 1;
+    }
+    sum / (wide(failures) + 1)
+}
+
+// The number of the group, of the first so many, that weighs least, or their number where each has a true place.
+fn lightest(marks: &[u8; 729], weights: &[u32; 729], failures: &[u32; 324], groups: usize) -> usize
+    requires { ⌜ groups ≤ 324 ⌝ }
+    ensures { λ r. ⌜ r ≤ groups ⌝ }
+{
+    let mut least = HEAVIEST;
+    let mut at = groups;
+    let mut i = 0;
+    while i < groups {
+        let here = load(marks, weights, group_at(i), failures[i]);
+        if here < least {
+            least = here;
+            at = i;
+        }
+        i += 1;
+    }
+    at
+}
+
+// The first undecided place of a group, or its last place.
+fn open_place(marks: &[u8; 729], group: Group) -> usize
+    requires { ⌜ IsGroup group ⌝ }
+    ensures { λ r. ⌜ r < 729 ⌝ }
+{
+    let mut k = 0;
+    while k < 8 {
+        let p = place(group, k);
+        if marks[p] == 0 {
+            return p;
+        }
+        k += 1;
+    }
+    place(group, k)
+}
+
+// Whether the marks become those of a full grid by a digit in each open cell, the cell with the fewest left first.
+fn dive(marks: &mut [u8; 729], decided: usize) -> bool
+    requires { ⌜ MarksOk Extended (now marks) × (decided ≡ decisions (now marks)) ⌝ }
+{
+    let even = [1u32; 729];
+    let never = [0u32; 324];
+    let mut known = decided;
+    while known < 729 {
+        let i = lightest(&*marks, &even, &never, 81);
+        if i == 81 {
+            return false;
+        }
+        let p = open_place(&*marks, group_at(i));
+        if marks[p] != 0 {
+            return false;
+        }
+        let assumed = assume(marks, known, p);
+        match assumed {
+            Settled::Clash => {
+                return false;
+            }
+            Settled::Decided(more) => {
+                known = more;
+            }
+        }
+    }
+    true
+}
+
+// How large the tree below a place is taken to be, by the number of places that its trial decides: half as large for each 16.
+fn weight(decided: usize) -> u32 {
+    let halvings = decided / 16;
+    if halvings < 32 {
+        (32 - decided % 16) as u32 * 67108864 >> halvings
+    } else {
+        0
+    }
+}
+
+// A trial of a place: where it fails, the place becomes false; else its weight is noted.
+fn weigh_place(
+    marks: &mut [u8; 729],
+    decided: usize,
+    weights: &mut [u32; 729],
+    place: usize,
+) -> Settled
+    requires { ⌜ MarksOk Extended (now marks) × (decided ≡ decisions (now marks)) × (place < 729) ⌝ }
+    ensures { λ r. ⌜ WeighedOk (now (marks .entry)) (now (marks .exit)) r ⌝ }
+{
+    if marks[place] != 0 {
+        return Settled::Decided(decided);
+    }
+    let mut with = *marks;
+    let tried = assume(&mut with, decided, place);
+    match tried {
+        Settled::Decided(known) => {
+            weights[place] = weight(known - decided);
+            Settled::Decided(decided)
+        }
+        Settled::Clash => join(marks, decided, literal::negative(place)),
+    }
+}
+
+// A trial of each place.
+fn weigh(marks: &mut [u8; 729], decided: usize, weights: &mut [u32; 729]) -> Settled
+    requires { ⌜ MarksOk Extended (now marks) × (decided ≡ decisions (now marks)) ⌝ }
+    ensures { λ r. ⌜ WeighedOk (now (marks .entry)) (now (marks .exit)) r ⌝ }
+{
+    let mut known = decided;
+    let mut p = 0;
+    while p < 729 {
+        let weighed = weigh_place(marks, known, weights, p);
+        match weighed {
+            Settled::Clash => {
+                return Settled::Clash;
+            }
+            Settled::Decided(more) => {
+                known = more;
+            }
+        }
+        p += 1;
+    }
+    Settled::Decided(known)
+}
+
+// Whether the marks are shown to leave nothing. Where they are not, they become those of a full grid that they leave.
+pub fn refuted(marks: &mut [u8; 729], decided: usize, failures: &mut [u32; 324]) -> bool
+    requires { ⌜ MarksOk Extended (now marks) × (decided ≡ decisions (now marks)) ⌝ }
+    ensures { λ r. ⌜ (r ≡ true → left (now (marks .entry)) ≡ List.[]) ⌝ }
+{
+    let mut full = *marks;
+    if dive(&mut full, decided) {
+        *marks = full;
+        return false;
+    }
+    let mut weights = [0u32; 729];
+    let weighed = weigh(marks, decided, &mut weights);
+    match weighed {
+        Settled::Clash => true,
+        Settled::Decided(known) => {
+            let i = lightest(&*marks, &weights, &*failures, GROUPS);
+            if i == GROUPS {
+                return false;
+            }
+            let group = group_at(i);
+            let mut k = 0;
+            while k < 9 {
+                let p = place(group, k);
+                if marks[p] == 1 {
+                    return false;
+                }
+                let mut next = *marks;
+                let assumed = assume(&mut next, known, p);
+                match assumed {
+                    Settled::Clash => {}
+                    Settled::Decided(more) => {
+                        if !refuted(&mut next, more, failures) {
+                            *marks = next;
+                            return false;
+                        }
+                    }
+                }
+                k += 1;
+            }
+            failures[i] = counted(failures[i]);
+            true
+        }
+    }
+}
+
+// One failure more, as far as a million.
+fn counted(failures: u32) -> u32 {
+    if failures < 1000000 {
+        failures + 1
+    } else {
+        failures
+    }
+}
