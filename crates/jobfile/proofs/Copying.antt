@@ -1,11 +1,11 @@
 -- An order that is written entry by entry: after k entries it is the first k of the order that is meant, then what was there.
 -- Assumes nothing.
-use mathlib.Core.Path.{_≡_, ap, sym, _∙_}
+use mathlib.Core.Path.{_≡_, ap, _∙_}
 use mathlib.Core.List.{List, _++_, append-nil}
 use Prim.Native.Nat.{ℕ, suc, _+_, _≤_, _<_}
 use native.Mathlib.Omega.{arith}
 use lib.IntN.{ℤ, pos}
-use lib.ListN.{length, getD, set, take, drop, drop-of-length-le}
+use lib.ListN.{length, getD, set, drop-of-length-le}
 use lib.Seq.{paste, paste-suc, take-all}
 
 module _ (d s : List ℤ) where

@@ -1,6 +1,6 @@
 -- The walk from piece to piece, one step at a time. Where it ends, each body that it found lies within the file, since each whole piece does.
 -- Assumes nothing.
-use mathlib.Core.Path.{_≡_, refl, ap, sym, subst, _∙_}
+use mathlib.Core.Path.{_≡_, refl, sym, subst}
 use mathlib.Core.Bool.{Bool, true, false, cond}
 use mathlib.Core.List.{List}
 use Prim.Native.Nat.{ℕ, zero, suc, _+_, _≤_, _<_}
@@ -17,7 +17,10 @@ use Rattle.jobfile.specs.declared.piece.Piece.{Piece}
 use Rattle.jobfile.specs.declared.piece.Piece.the-variants as piece
 use Rattle.jobfile.specs.declared.piece.Pieces.{Pieces}
 use Rattle.jobfile.specs.declared.piece.Pieces.the-variants.{Whole, Refused}
-use Rattle.jobfile.proofs.Reading.{Taken, whole-taken}
+use Rattle.jobfile.proofs.Reading.{whole-taken}
+
+not-whole : (r : Refusal) (b : Bodies) → Refused r ≡ Whole b → ⊥
+not-whole r b e = let z : _≡_ {A = ℕ} 0 1 = cc in omega arith
 
 module _ (f : List ℕ) where
   -- the walk has come to a place: what is left of it gives what the whole walk gives, and there are steps enough
@@ -84,7 +87,7 @@ module _ (f : List ℕ) where
       go r true (piece.Whole kind next) q e =
           let t = whole-taken f at last kind next q in
           r next kind (withBody b kind (at + 4)) (within-more b kind (at + 4) (omega (arith, t .next-is, t .within)) l) e
-      go r true (piece.Refused x) q e = absurd (let z : _≡_ {A = ℕ} 0 1 = cc in omega arith)
+      go r true (piece.Refused x) q e = absurd (not-whole x d e)
       go r false p q e = let q : b ≡ d = cc in subst (Within f) q l
 
   -- what the layout software's part finds
@@ -103,12 +106,12 @@ module _ (f : List ℕ) where
 
       found : (d : Bodies) (x y : Bool) → eqb (d .grid) 0 ≡ x → eqb (d .technique) 0 ≡ y → Within f d
           → cond x (Refused (refusal 34 0)) (cond y (Refused (refusal 34 0)) (Whole d)) ≡ Whole b → Readable f b
-      found d true y p q l e = absurd (let z : _≡_ {A = ℕ} 0 1 = cc in omega arith)
-      found d false true p q l e = absurd (let z : _≡_ {A = ℕ} 0 1 = cc in omega arith)
+      found d true y p q l e = absurd (not-whole _ b e)
+      found d false true p q l e = absurd (not-whole _ b e)
       found d false false p q l e =
           let same : d ≡ b = cc in
           subst (Readable f) same (record { grid-there = eqb-false (d .grid) 0 p; technique-there = eqb-false (d .technique) 0 q; within = l })
 
       go : (w : Pieces) → walked f ≡ w → complete w ≡ Whole b → Readable f b
       go (Whole d) q e = found d (eqb (d .grid) 0) (eqb (d .technique) 0) refl refl (within-ends (length f) 0 0 noBodies d nothing q) e
-      go (Refused r) q e = absurd (let z : _≡_ {A = ℕ} 0 1 = cc in omega arith)
+      go (Refused r) q e = absurd (not-whole _ b e)

@@ -1,5 +1,4 @@
 -- A ceiling that is there lies within the file; two words are below 65,536, so that their number fits.
-use mathlib.Core.Path.{_≡_}
 use Prim.Native.Nat.{_+_, _*_, _≤_}
 use native.Mathlib.Omega.{arith}
 use borrow.Author.Needs.{needs}

@@ -3,7 +3,7 @@ use mathlib.Core.Path.{_≡_, refl, ap, sym, _∙_}
 use mathlib.Core.List.{List}
 use Prim.Native.Nat.{ℕ, _+_, _*_, _-_, _≤_, _<_}
 use native.Mathlib.Omega.{arith}
-use lib.IntN.{ℤ, pos}
+use lib.IntN.{pos}
 use lib.ListN.{length, getD, length-set}
 use Rattle.clauses.proofs.Filling.{map-at}
 use Rattle.clauses.proofs.Signed.{returned}
@@ -36,7 +36,7 @@ loop-again c =
     let w = l .loop in
     let a = l .before .before .args in
     let f = a .file .now in
-    let h = c .before .before .loop-test .taken in (
+    let h : w .k < 1458 = omega (arith, c .before .before .loop-test .taken) in (
       omega arith,
       length-set (w .entries) (w .k) _ ∙ w .inv .1,
       copied-more _ (entriesAt f (a .at)) (w .entries) (w .k) _ (w .inv .2) h (omega (arith, entries-long f (a .at)))
@@ -47,7 +47,7 @@ returns : tie.Need-returns Inv-loop μ-loop
 returns c =
     let w = c .before .loop in
     let a = c .before .before .before .args in
-    w .inv .2 ∙ copied-all _ (entriesAt (a .file .now) (a .at)) (w .k) (c .loop-test .left) (omega (arith, entries-long (a .file .now) (a .at)))
+    w .inv .2 ∙ copied-all _ (entriesAt (a .file .now) (a .at)) (w .k) (omega (arith, c .loop-test .left)) (omega (arith, entries-long (a .file .now) (a .at)))
 
 pub entries-at-spec : {M : Type 1} → statement M
 entries-at-spec =

@@ -1,5 +1,4 @@
 -- An order that is there lies within the file.
-use mathlib.Core.Path.{_≡_, _∙_}
 use borrow.Author.Needs.{needs}
 use borrow.Author.Tests.{eq-eqb, ne-eqb}
 use Rattle.jobfile.specs.Pieces.{bodyLength}

@@ -14,7 +14,6 @@ use Rattle.grid.specs.declared.Checked.the-variants as check
 use Rattle.grid.proofs.Completion.{not-accepted}
 use Rattle.jobfile.specs.Pieces.{piecesOf}
 use Rattle.jobfile.specs.Call.{lentCheck, onAccepted, onWhole, readBodies, readCall}
-use Rattle.jobfile.specs.declared.piece.Bodies.{Bodies}
 use Rattle.jobfile.specs.declared.piece.Pieces.{Pieces}
 use Rattle.jobfile.specs.declared.piece.Pieces.the-variants.{Whole}
 use Rattle.jobfile.proofs.Walking.{pieces-readable}

@@ -4,13 +4,12 @@ use mathlib.Core.List.{List}
 use Prim.Native.Nat.{ℕ, _+_, _-_, _≤_}
 use native.Mathlib.Omega.{arith}
 use borrow.Author.Needs.{needs}
-use lib.IntN.{ℤ}
 use lib.ListN.{length, take, drop}
 use Rattle.grid.specs.declared.Checked.{Checked}
 use Rattle.grid.specs.declared.Checked.the-variants.{Accepted}
 use Rattle.jobfile.specs.Pieces.{bodyLength}
 use Rattle.jobfile.specs.Bodies.{gridIn, techniqueIn, ceilingIn, orderIn}
-use Rattle.jobfile.specs.Call.{Given, contentsCheck, onAccepted, readBodies}
+use Rattle.jobfile.specs.Call.{contentsCheck, onAccepted, readBodies}
 use Rattle.jobfile.specs.declared.ReadAnswer.the-variants.{Read}
 use Rattle.jobfile.specs.declared.piece.Bodies.{Bodies}
 use Rattle.jobfile.proofs.read_bodies.Statement.{statement}
