@@ -1,0 +1,4 @@
+pub mod Copying
+pub mod Reading
+pub mod Walking
+mod Examples

@@ -1,0 +1,4 @@
+pub mod Number
+pub mod Pieces
+pub mod Bodies
+pub mod Call
