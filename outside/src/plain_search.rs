@@ -21,11 +21,11 @@ pub struct Search {
     /// goes with.
     pub decided: usize,
     most_closures: usize,
-    /// How often each group had all of its places refuted.
-    failures: [u32; GROUPS],
+    /// How often a test ended at a place that can be neither true nor false.
+    failures: [u32; 729],
 }
 
-/// The cells, then each house for each digit.
+/// How many groups there are: the cells, then each house for each digit.
 const GROUPS: usize = 324;
 
 impl Search {
@@ -42,7 +42,7 @@ impl Search {
             closures: 1,
             decided: 0,
             most_closures,
-            failures: [0; GROUPS],
+            failures: [0; 729],
         };
         if let Some(state) = closed_givens(grid, true) {
             if let Some(mut guess) = search.tested(state) {
@@ -89,13 +89,18 @@ impl Search {
         for place in 0..state.marks.len() {
             if state.marks[place] == 0 {
                 let literal = place as i16 + 1;
-                match self.closed_with(&state, literal) {
-                    None => state = self.closed_with(&state, -literal)?,
-                    Some(next) => weights[place] = weight(next.decided - state.decided),
+                if let Some(next) = self.closed_with(&state, literal) {
+                    weights[place] = weight(next.decided - state.decided);
+                    continue;
                 }
+                let Some(next) = self.closed_with(&state, -literal) else {
+                    self.failures[place] = (self.failures[place] + 1).min(1_000_000);
+                    return None;
+                };
+                state = next;
             }
         }
-        let Some(group) = lightest(&state, &weights, &self.failures) else {
+        let Some(group) = lightest(&state, &weights, &self.failures, GROUPS) else {
             return Some(state);
         };
         for place in places(group).filter(|&place| state.marks[place] == 0) {
@@ -106,14 +111,13 @@ impl Search {
                 }
             }
         }
-        self.failures[group] = (self.failures[group] + 1).min(1_000_000);
         None
     }
 
     /// A full grid by the first digit left in each open cell, the cell with the fewest left first.
     fn dive(&mut self, mut state: State) -> Option<State> {
         while state.decided < state.marks.len() {
-            let cell = lightest(&state, &[1; 729], &[0; CELLS])?;
+            let cell = lightest(&state, &[1; 729], &[0; 729], CELLS)?;
             let place = places(cell).find(|&place| state.marks[place] == 0)?;
             state = self.closed_with(&state, place as i16 + 1)?;
         }
@@ -150,21 +154,27 @@ fn places(group: usize) -> impl Iterator<Item = usize> {
     })
 }
 
-/// The group with no true place, of as many as there are failures, whose undecided places weigh
-/// least, or None where each has a true one. A group weighs less for each time that it has failed.
-fn lightest(state: &State, weights: &[u32; 729], failures: &[u32]) -> Option<usize> {
+/// The group with no true place, of the first so many, whose undecided places weigh least, or None
+/// where each has a true one. A group weighs less for each failure at one of its places.
+fn lightest(
+    state: &State,
+    weights: &[u32; 729],
+    failures: &[u32; 729],
+    groups: usize,
+) -> Option<usize> {
     let mut lightest = None;
     let mut least = u64::MAX;
-    'groups: for (group, &failures) in failures.iter().enumerate() {
-        let mut sum = 0;
+    'groups: for group in 0..groups {
+        let (mut sum, mut failed) = (0, 0);
         for place in places(group) {
             match state.marks[place] {
                 0 => sum += u64::from(weights[place]),
                 1 => continue 'groups,
                 _ => {}
             }
+            failed += u64::from(failures[place]);
         }
-        let here = sum / (u64::from(failures) + 1);
+        let here = (sum << 24) / (failed + 9);
         if here < least {
             (lightest, least) = (Some(group), here);
         }

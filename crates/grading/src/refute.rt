@@ -42,12 +42,13 @@ fn wide(n: u32) -> u64
 // More than any nine places weigh.
 const HEAVIEST: u64 = 18446744073709551615;
 
-// What the undecided places of a group weigh, less for each time that it has failed, so that the same few groups are tried first; where a
-// place is true, there is no choice to be made.
-fn load(marks: &[u8; 729], weights: &[u32; 729], group: Group, failures: u32) -> u64
+// What the undecided places of a group weigh, less for each time that the test has failed at one of its places, so that the same few groups
+// are tried first; where a place is true, there is no choice to be made.
+fn load(marks: &[u8; 729], weights: &[u32; 729], failures: &[u32; 729], group: Group) -> u64
     requires { ⌜ IsGroup group ⌝ }
 {
     let mut sum = 0u64;
+    let mut failed = 0u64;
     let mut j = 0;
     while j < 9 {
         let p = place(group, j);
@@ -57,13 +58,14 @@ fn load(marks: &[u8; 729], weights: &[u32; 729], group: Group, failures: u32) ->
         if marks[p] == 0 {
             sum += wide(weights[p]);
         }
+        failed += wide(failures[p]);
         j += 1;
     }
-    sum / (wide(failures) + 1)
+    16777216 * sum / (failed + 9)
 }
 
 // The number of the group, of the first so many, that weighs least, or their number where each has a true place.
-fn lightest(marks: &[u8; 729], weights: &[u32; 729], failures: &[u32; 324], groups: usize) -> usize
+fn lightest(marks: &[u8; 729], weights: &[u32; 729], failures: &[u32; 729], groups: usize) -> usize
     requires { ⌜ groups ≤ 324 ⌝ }
     ensures { λ r. ⌜ r ≤ groups ⌝ }
 {
@@ -71,7 +73,7 @@ fn lightest(marks: &[u8; 729], weights: &[u32; 729], failures: &[u32; 324], grou
     let mut at = groups;
     let mut i = 0;
     while i < groups {
-        let here = load(marks, weights, group_at(i), failures[i]);
+        let here = load(marks, weights, failures, group_at(i));
         if here < least {
             least = here;
             at = i;
@@ -102,7 +104,7 @@ fn dive(marks: &mut [u8; 729], decided: usize) -> bool
     requires { ⌜ MarksOk Extended (now marks) × (decided ≡ decisions (now marks)) ⌝ }
 {
     let even = [1u32; 729];
-    let never = [0u32; 324];
+    let never = [0u32; 729];
     let mut known = decided;
     while known < 729 {
         let i = lightest(&*marks, &even, &never, 81);
@@ -160,8 +162,22 @@ fn weigh_place(
     }
 }
 
-// A trial of each place.
-fn weigh(marks: &mut [u8; 729], decided: usize, weights: &mut [u32; 729]) -> Settled
+// One failure more, as far as a million.
+fn counted(failures: u32) -> u32 {
+    if failures < 1000000 {
+        failures + 1
+    } else {
+        failures
+    }
+}
+
+// A trial of each place. It ends at a place that can be neither true nor false.
+fn weigh(
+    marks: &mut [u8; 729],
+    decided: usize,
+    weights: &mut [u32; 729],
+    failures: &mut [u32; 729],
+) -> Settled
     requires { ⌜ MarksOk Extended (now marks) × (decided ≡ decisions (now marks)) ⌝ }
     ensures { λ r. ⌜ WeighedOk (now (marks .entry)) (now (marks .exit)) r ⌝ }
 {
@@ -171,6 +187,7 @@ fn weigh(marks: &mut [u8; 729], decided: usize, weights: &mut [u32; 729]) -> Set
         let weighed = weigh_place(marks, known, weights, p);
         match weighed {
             Settled::Clash => {
+                failures[p] = counted(failures[p]);
                 return Settled::Clash;
             }
             Settled::Decided(more) => {
@@ -183,7 +200,7 @@ fn weigh(marks: &mut [u8; 729], decided: usize, weights: &mut [u32; 729]) -> Set
 }
 
 // Whether the marks are shown to leave nothing. Where they are not, they become those of a full grid that they leave.
-pub fn refuted(marks: &mut [u8; 729], decided: usize, failures: &mut [u32; 324]) -> bool
+pub fn refuted(marks: &mut [u8; 729], decided: usize, failures: &mut [u32; 729]) -> bool
     requires { ⌜ MarksOk Extended (now marks) × (decided ≡ decisions (now marks)) ⌝ }
     ensures { λ r. ⌜ (r ≡ true → left (now (marks .entry)) ≡ List.[]) ⌝ }
 {
@@ -193,7 +210,7 @@ pub fn refuted(marks: &mut [u8; 729], decided: usize, failures: &mut [u32; 324])
         return false;
     }
     let mut weights = [0u32; 729];
-    let weighed = weigh(marks, decided, &mut weights);
+    let weighed = weigh(marks, decided, &mut weights, failures);
     match weighed {
         Settled::Clash => true,
         Settled::Decided(known) => {
@@ -221,17 +238,7 @@ pub fn refuted(marks: &mut [u8; 729], decided: usize, failures: &mut [u32; 324])
                 }
                 k += 1;
             }
-            failures[i] = counted(failures[i]);
             true
         }
-    }
-}
-
-// One failure more, as far as a million.
-fn counted(failures: u32) -> u32 {
-    if failures < 1000000 {
-        failures + 1
-    } else {
-        failures
     }
 }

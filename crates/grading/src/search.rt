@@ -126,7 +126,7 @@ fn ruled_out(
     marks: &[u8; 729],
     decided: usize,
     guess: &mut [u8; 729],
-    failures: &mut [u32; 324],
+    failures: &mut [u32; 729],
     place: usize,
 ) -> bool
     requires { ⌜ MarksOk Extended (now marks) × (decided ≡ decisions (now marks)) × (place < 729) ⌝ }
@@ -148,7 +148,7 @@ fn explore(
     marks: &[u8; 729],
     decided: usize,
     guess: &mut [u8; 729],
-    failures: &mut [u32; 324],
+    failures: &mut [u32; 729],
 ) -> Found
     requires { ⌜ MarksOk Extended (now marks) × (decided ≡ decisions (now marks)) ⌝ }
     ensures { λ r. ⌜ r ≡ foundOf (left (now (marks .entry))) ⌝ }
@@ -195,7 +195,7 @@ pub fn find(grid: &[u8]) -> Found
         Settled::Clash => none(),
         Settled::Decided(decided) => {
             let mut guess = marks;
-            let mut failures = [0u32; 324];
+            let mut failures = [0u32; 729];
             if refuted(&mut guess, decided, &mut failures) {
                 return none();
             }

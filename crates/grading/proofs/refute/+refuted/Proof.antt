@@ -26,7 +26,6 @@ use Rattle.grading.proofs.refute.refuted.Reads as refuted
 use Rattle.grading.proofs.refute.refuted.Kinds as refuted-kinds
 use Rattle.grading.proofs.refute.+refuted.Lts-refuted as lts
 use Rattle.grading.proofs.branch.assume.Reads as assume-reads
-use Rattle.grading.proofs.refute.counted.Reads as counted-reads
 use Rattle.grading.proofs.refute.dive.Reads as dive-reads
 use Rattle.grading.proofs.refute.group_at.Reads as group-at-reads
 use Rattle.grading.proofs.refute.lightest.Reads as lightest-reads
@@ -62,8 +61,6 @@ calls t = (
   assume-reads.Learnt,
   refuted-below t,
   refuted.Post,
-  counted-reads.Asked,
-  counted-reads.Learnt,
 )
 
 -- the first k places of the group are refuted
@@ -80,7 +77,7 @@ module _ (t : ℕ) (c : lts.After-group-at (calls t) (refuted-at t) refuted.Post
   told = c .before .before .before .before .before .before .before
 
   abbrev first : lts.Start (calls t) (refuted-at t) refuted.Post Inv μ-loop
-  first = told .before .before .before .before .before .before .before .before .before
+  first = told .before .before .before .before .before .before .before .before .before .before
 
   -- the marks as they are weighed
   abbrev n : List ℕ
@@ -164,19 +161,17 @@ loop-again t c =
 returns-5 : (t : ℕ) → lts.Need-returns-5 (calls t) (refuted-at t) refuted.Post Inv μ-loop
 returns-5 t c e =
     let w = c .before .before in
-    subst (WeighedOk (w .before .before .before .before .before .before .before .args .marks .now) (w .weigh .last .0)) (c .enum-told .given .1) (w .weigh .ensures)
+    subst (WeighedOk (w .before .before .before .before .before .before .before .before .args .marks .now) (w .weigh .last .0)) (c .enum-told .given .1) (w .weigh .ensures)
 
 returns-6 : (t : ℕ) → lts.Need-returns-6 (calls t) (refuted-at t) refuted.Post Inv μ-loop
 returns-6 t c e =
-    let o = c .before .before in
-    let l = o .before .loop in
-    let g = o .before .before in
+    let l = c .before .loop in
+    let g = c .before .before in
     weighed t g .0 .same ∙ l .inv .1 .same
-    ∙ group-refutes (l .marks) (l .inv .1 .marks .marks) (g .group-at .result) (g .group-at .ensures) (λ j h. l .inv .3 j (omega (arith, l .inv .0, o .loop-test .left)))
+    ∙ group-refutes (l .marks) (l .inv .1 .marks .marks) (g .group-at .result) (g .group-at .ensures) (λ j h. l .inv .3 j (omega (arith, l .inv .0, c .loop-test .left)))
 
 pub +refuted-spec : {M : Type 1} → statement M
 +refuted-spec = close μ-refuted λ t. lts.spec (calls t) (refuted-at t) refuted.Post Inv μ-loop
     (λ c κs. search needs) (λ c. not-refuted) (λ c κs. search needs) (λ c. search needs) (λ c. search needs) (λ c κs. search needs) (λ c. not-refuted) (λ c κs. search needs)
     (loop-holds t) (place-requires t) (λ c. search needs) (λ c. not-refuted) (assume-requires t) (λ c. search needs) (λ c. search needs) (refuted-requires t) (λ c. not-refuted)
-    (λ c. search needs) (λ c. search needs) (loop-again t) (λ c. search needs) (λ c. search needs) (λ c κs. search needs) (λ c. search needs) (λ c. search needs) (returns-5 t)
-    (returns-6 t)
+    (λ c. search needs) (λ c. search needs) (loop-again t) (returns-5 t) (returns-6 t)

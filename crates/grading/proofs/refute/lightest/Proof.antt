@@ -14,11 +14,11 @@ abbrev μ-loop : tie.MeasureT-loop
 
 again : tie.Need-loop-again Inv-loop μ-loop
 again c =
-    let l = c .before .before .before .before .before .loop in
-    let i = c .before .before .before .before .loop-test .taken in
+    let l = c .before .before .before .before .loop in
+    let i = c .before .before .before .loop-test .taken in
     ⊎-elim (λ w. omega (arith, w .2, i)) (λ w. omega (arith, w .2, l .inv)) (c .if1 .came)
 
 pub lightest-spec : {M : Type 1} → statement M
 lightest-spec =
     tie.close
-    (tie.spec Inv-loop μ-loop (λ c. search needs) (λ c κs. search needs) (λ c. search needs) (λ c. search needs) (λ c κs. search needs) (λ c. search needs) (λ c. search needs) again (λ c. search needs))
+    (tie.spec Inv-loop μ-loop (λ c. search needs) (λ c κs. search needs) (λ c κs. search needs) (λ c. search needs) (λ c. search needs) again (λ c. search needs))

@@ -11,10 +11,10 @@ use Rattle.grading.proofs.refute.weigh.Statement.{statement}
 use Rattle.grading.proofs.refute.weigh.Tie as tie
 
 abbrev Inv-loop : tie.InvT-loop
-Inv-loop marks₀ decided weights₀ known₀ p₀ marks weights known p = Weighs marks₀ marks × (known ≡ decisions marks)
+Inv-loop marks₀ decided weights₀ failures₀ known₀ p₀ marks weights failures known p = Weighs marks₀ marks × (known ≡ decisions marks)
 
 abbrev μ-loop : tie.MeasureT-loop
-μ-loop marks₀ decided weights₀ known₀ p₀ marks weights known p = 729 - p
+μ-loop marks₀ decided weights₀ failures₀ known₀ p₀ marks weights failures known p = 729 - p
 
 holds : tie.Need-loop-holds Inv-loop μ-loop
 holds c = (weighs-none (c .args .marks .now) (c .pre .0), c .pre .1)
@@ -30,7 +30,10 @@ step : (c : tie.After-weigh-place Inv-loop μ-loop) (r : Settled) → c .weigh-p
 step c r e = subst (WeighedOk (c .before .before .before .before .loop .marks) (c .weigh-place .last .0)) e (c .weigh-place .ensures)
 
 returns : tie.Need-returns Inv-loop μ-loop
-returns c = let w = c .before .before in w .before .before .before .before .loop .inv .0 .same ∙ step w _ (c .enum-told .given .1)
+returns c =
+    let e = c .before .before in
+    let w = e .before .before in
+    w .before .before .before .before .loop .inv .0 .same ∙ step w _ (e .enum-told .given .1)
 
 again : tie.Need-loop-again Inv-loop μ-loop
 again c =
@@ -44,4 +47,5 @@ returns-2 c = c .before .loop .inv
 pub weigh-spec : {M : Type 1} → statement M
 weigh-spec =
     tie.close
-    (tie.spec Inv-loop μ-loop holds requires (λ c. search needs) returns (λ c. search needs) (λ c. search needs) (λ c. search needs) again returns-2)
+    (tie.spec Inv-loop μ-loop holds requires (λ c. search needs) (λ c. search needs) (λ c. search needs) (λ c κs. search needs) (λ c. search needs) (λ c. search needs) returns
+    (λ c. search needs) (λ c. search needs) (λ c. search needs) again returns-2)
