@@ -38,6 +38,9 @@ pub fn batches(grids: &[Grid]) -> Tally {
             tally.batch(lent);
         });
     }
+    for length in [0, MOST_GRIDS + 1, 2 * MOST_GRIDS] {
+        tally.batch(&lent(&mut random, [&all, &short], length, 0));
+    }
     for number in 0..SMALL + LARGEST {
         let length = match (number, random.below(16)) {
             (SMALL.., _) => MOST_GRIDS,
