@@ -2,7 +2,7 @@
 //! in elements, an array as its pointer; the functions read and write nothing outside what they are
 //! lent.
 
-use crate::packed::{unpack, unpack_counted};
+use crate::packed::{unpack, unpack_both, unpack_counted};
 use crate::refusal::Refusal;
 
 /// The bytes of a listing's header.
@@ -67,6 +67,14 @@ extern "C" {
         line_length: usize,
         out: *mut [u8; LINE],
     ) -> usize;
+    fn grader_read_job_file(
+        file: *const u8,
+        file_length: usize,
+        grid: *mut u8,
+        grid_length: usize,
+        order: *mut i16,
+        order_length: usize,
+    ) -> u64;
 }
 
 pub fn check_grid(grid: &[u8]) -> Result<u8, Refusal> {
@@ -183,4 +191,22 @@ pub fn header(out: &mut [u8; HEADER]) {
 /// The length of the output line.
 pub fn list_line(number: u64, line: &[u8], out: &mut [u8; LINE]) -> usize {
     unsafe { grader_list_line(number, line.as_ptr(), line.len(), out) }
+}
+
+/// The technique and the ceiling.
+pub fn read_job_file(
+    file: &[u8],
+    grid: &mut [u8],
+    order: &mut [i16],
+) -> Result<(u8, u64), Refusal> {
+    unpack_both(unsafe {
+        grader_read_job_file(
+            file.as_ptr(),
+            file.len(),
+            grid.as_mut_ptr(),
+            grid.len(),
+            order.as_mut_ptr(),
+            order.len(),
+        )
+    })
 }

@@ -1,11 +1,13 @@
 //! Compares the proved library with the reference: the clause call, the grid check, the completion
-//! test, jobs, searches, gradings, batches and the lines of listings, each on well-formed and on broken
-//! input; and the program `gradelist`, which the variable GRADELIST names. A file of grids, one a line,
-//! may be named as the argument; all but the first three run on them too. It prints the number of
-//! cases of each kind and the first difference with its input; the exit status is 1 at any difference.
+//! test, jobs, searches, gradings, batches, job files and the lines of listings, each on well-formed and
+//! on broken input; and the program `gradelist`, which the variable GRADELIST names. A file of grids,
+//! one a line, may be named as the argument; jobs, searches, gradings, batches and listings run on them
+//! too. It prints the number of cases of each kind and the first difference with its input; the exit
+//! status is 1 at any difference.
 
 mod batches;
 mod gradings;
+mod jobfiles;
 mod jobs;
 mod lent;
 mod listings;
@@ -85,6 +87,7 @@ fn main() -> Result<ExitCode, String> {
                 "batches, with jobs by outcome, or by refusal",
                 batches.join().expect(ended),
             ),
+            ("job files by technique or refusal", jobfiles::job_files()),
             ("lines of listings by verdict or refusal", lines),
             ("runs of gradelist, with lines by verdict or refusal", runs),
         ])
