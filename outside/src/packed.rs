@@ -1,6 +1,6 @@
 //! The answer word of the C functions: bits 56 to 63 the refusal's number, 0 if not refused; bits
 //! 48 to 55 a small value, such as a clause's length, a job's outcome or a verdict; bits 0 to 47 the
-//! place of a refusal, the count of a job or the trial total of a grading.
+//! place of a refusal, the count of a job, the trial total of a grading or the ceiling of a job file.
 
 use crate::refusal::Refusal;
 
@@ -19,11 +19,17 @@ pub fn unpack(word: u64) -> Result<u8, Refusal> {
     }
 }
 
+/// The small value with bits 0 to 47.
+pub fn unpack_both(word: u64) -> Result<(u8, u64), Refusal> {
+    let value = unpack(word)?;
+    Ok((value, low(word)))
+}
+
 /// The small value and the count in the word of a job or a grading. A count past 32 bits reads as
 /// the highest number, which none counts to.
 pub fn unpack_counted(word: u64) -> Result<(u8, u32), Refusal> {
-    let value = unpack(word)?;
-    Ok((value, u32::try_from(low(word)).unwrap_or(u32::MAX)))
+    let (value, count) = unpack_both(word)?;
+    Ok((value, u32::try_from(count).unwrap_or(u32::MAX)))
 }
 
 /// Bits 0 to 47.

@@ -1,8 +1,15 @@
 //! The proved library's C functions behind safe calls. A slice passes as its pointer and its length
-//! in elements; the functions read and write nothing outside the slices that they are lent.
+//! in elements, an array as its pointer; the functions read and write nothing outside what they are
+//! lent.
 
-use crate::packed::{unpack, unpack_counted};
+use crate::packed::{unpack, unpack_both, unpack_counted};
 use crate::refusal::Refusal;
+
+/// The bytes of a listing's header.
+pub const HEADER: usize = 20;
+
+/// The bytes lent for an output line.
+pub const LINE: usize = 64;
 
 #[link(name = "host", kind = "static")]
 extern "C" {
@@ -40,6 +47,33 @@ extern "C" {
         ceiling: u32,
         completion: *mut u8,
         completion_length: usize,
+    ) -> u64;
+    fn grader_batch(
+        grids: *const u8,
+        grids_length: usize,
+        technique: u32,
+        order: *const i16,
+        order_length: usize,
+        ceiling: u32,
+        marks: *mut u8,
+        marks_length: usize,
+        answers: *mut u32,
+        answers_length: usize,
+    ) -> u64;
+    fn grader_header(out: *mut [u8; HEADER]);
+    fn grader_list_line(
+        number: u64,
+        line: *const u8,
+        line_length: usize,
+        out: *mut [u8; LINE],
+    ) -> usize;
+    fn grader_read_job_file(
+        file: *const u8,
+        file_length: usize,
+        grid: *mut u8,
+        grid_length: usize,
+        order: *mut i16,
+        order_length: usize,
     ) -> u64;
 }
 
@@ -121,6 +155,58 @@ pub fn grade(
             ceiling,
             completion.as_mut_ptr(),
             completion.len(),
+        )
+    })
+}
+
+/// The marks and the answer list tell of the jobs.
+pub fn batch(
+    grids: &[u8],
+    technique: u32,
+    order: &[i16],
+    ceiling: u32,
+    marks: &mut [u8],
+    answers: &mut [u32],
+) -> Result<u8, Refusal> {
+    unpack(unsafe {
+        grader_batch(
+            grids.as_ptr(),
+            grids.len(),
+            technique,
+            order.as_ptr(),
+            order.len(),
+            ceiling,
+            marks.as_mut_ptr(),
+            marks.len(),
+            answers.as_mut_ptr(),
+            answers.len(),
+        )
+    })
+}
+
+pub fn header(out: &mut [u8; HEADER]) {
+    unsafe { grader_header(out) }
+}
+
+/// The length of the output line.
+pub fn list_line(number: u64, line: &[u8], out: &mut [u8; LINE]) -> usize {
+    unsafe { grader_list_line(number, line.as_ptr(), line.len(), out) }
+}
+
+/// The technique and the ceiling.
+pub fn read_job_file(
+    file: &[u8],
+    grid: &mut [u8],
+    order: &mut [i16],
+) -> Result<(u8, u64), Refusal> {
+    unpack_both(unsafe {
+        grader_read_job_file(
+            file.as_ptr(),
+            file.len(),
+            grid.as_mut_ptr(),
+            grid.len(),
+            order.as_mut_ptr(),
+            order.len(),
         )
     })
 }

@@ -5,16 +5,15 @@ use Prim.Native.Nat.{ℕ, zero, suc, _+_, _*_, _-_, _/_, _%_}
 use lib.Dec.{eqb, leb, ltb}
 use lib.IntN.{ℤ}
 use lib.ListN.{length, take, drop}
-use Rattle.grid.specs.Refusals.{refusal, firstBad}
+use Rattle.grid.specs.Refusals.{refusal, onAccepted, firstBad}
+use Rattle.grid.specs.declared.Refusal.{Refusal}
 use Rattle.grid.specs.declared.Checked.{Checked}
 use Rattle.grid.specs.declared.Checked.the-variants as check
 use Rattle.clauses.specs.Clauses.{clausesOf}
 use Rattle.clauses.specs.Models.{givens}
 use Rattle.closure.specs.Job.{End, jobEnd, countOf, marksOf, outcomeOf}
 use Rattle.inference.specs.Order.{orderCheck}
-use Rattle.inference.specs.Technique.{techniqueOf}
-use Rattle.inference.specs.declared.technique.Numbered.{Numbered}
-use Rattle.inference.specs.declared.technique.Numbered.the-variants.{Known, Unknown}
+use Rattle.inference.specs.Technique.{techniqueOf, onKnown}
 use Rattle.inference.specs.declared.technique.Technique.{Technique}
 use Rattle.batch.specs.declared.BatchAnswer.{BatchAnswer}
 use Rattle.batch.specs.declared.BatchAnswer.the-variants.{Ran, Refused}
@@ -76,15 +75,9 @@ module _ (t : Technique) (o : List ℤ) (g : List ℕ) (c : ℕ) where
 abbrev pub Given : Type 0
 Given = BatchAnswer × List ℕ × List ℕ
 
--- on where a check accepts; a refusal changes nothing
-abbrev pub onAccepted : Checked → List ℕ → List ℕ → (Unit {0} → Given) → Given
-onAccepted check.Accepted m a k = k tt
-onAccepted (check.Refused r) m a k = (Refused r, m, a)
-
--- on where there is a technique of that number; 21: there is none
-abbrev pub onKnown : Numbered → List ℕ → List ℕ → (Technique → Given) → Given
-onKnown (Known t) m a k = k t
-onKnown Unknown m a k = (Refused (refusal 21 0), m, a)
+-- a refusal changes nothing
+abbrev pub refused : List ℕ → List ℕ → Refusal → Given
+refused m a r = (Refused r, m, a)
 
 -- a batch that is not refused
 abbrev pub ran : Done → Given
@@ -93,5 +86,5 @@ ran d = (Ran, d .marks, d .numbers)
 -- the host's part, then the keyer's, the technique, and the operator's check of the order
 unfoldable pub batchCall : List ℕ → ℕ → List ℤ → ℕ → List ℕ → List ℕ → Given
 batchCall g n o c m a =
-    onAccepted (lentCheck (length g) (length m) (length a)) m a λ u. onAccepted (bytesCheck g) m a λ v. onKnown (techniqueOf n) m a λ t.
-    onAccepted (orderCheck o) m a λ w. ran (jobsOf t o g c)
+    onAccepted (lentCheck (length g) (length m) (length a)) (refused m a) λ u. onAccepted (bytesCheck g) (refused m a) λ v.
+    onKnown (techniqueOf n) (refused m a) λ t. onAccepted (orderCheck o) (refused m a) λ w. ran (jobsOf t o g c)

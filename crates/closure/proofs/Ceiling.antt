@@ -7,12 +7,24 @@ use Prim.Native.Nat.{ℕ, zero, suc, _+_, _≤_}
 use native.Mathlib.Omega.{arith}
 use borrow.Author.Tests.{eqb-false}
 use lib.Dec.{eqb}
-use lib.IntN.{ℤ, negℤ}
+use lib.IntN.{ℤ, pos, negsuc, negℤ}
 use Rattle.clauses.specs.Clauses.{Clause}
-use Rattle.closure.specs.Marks.{isDecided, mark, blank}
-use Rattle.closure.specs.Propagation.{Answer, clash, closed, bind, unitClosure, join}
-use Rattle.closure.specs.Job.{isFull, Step, skip, halt, kept, broken, refuted, try, stepOf, step}
+use Rattle.closure.specs.Marks.{has, isDecided, put, mark, decidedIn, blank}
+use Rattle.closure.specs.Propagation.{Answer, clash, closed, bind, remaining, sweep, sweeps, unitClosure, join}
+use Rattle.closure.specs.Job.{isFull, End, opened, stopped, Step, skip, halt, kept, broken, refuted, try, stepOf, step}
 use Rattle.closure.specs.Job.{Walk, walked, ended, unlessFull, after, nextPass, walk, passes, fromClosure, start, jobEnd, countOf}
+
+-- A job that is computed under two ceilings, −v written `negsuc (v - 1)`. Of these clauses the trial of −1 succeeds at first; that of −2 fails;
+-- and then, in a second pass, that of −1 fails. The third pass makes no trial. Under the ceiling 2 the job stops in the second.
+delayed : List Clause
+delayed = (pos 2 ∷ pos 3 ∷ []) ∷ (pos 2 ∷ negsuc 2 ∷ []) ∷ (pos 1 ∷ pos 4 ∷ negsuc 1 ∷ []) ∷ (pos 1 ∷ negsuc 3 ∷ negsuc 1 ∷ []) ∷ []
+
+delayedEnd : ℕ → End
+delayedEnd ceiling = passes delayed ceiling 729 (negsuc 0 ∷ negsuc 1 ∷ []) [] 0
+
+jobs : (delayedEnd 9 ≡ opened (1 ∷ 1 ∷ []) 3) × (delayedEnd 2 ≡ stopped (0 ∷ 1 ∷ []) 2)
+unfolding delayedEnd delayed passes walk step unitClosure sweeps sweep remaining has mark put decidedIn
+jobs = (refl, refl)
 
 module _ (cs : List Clause) (ceiling : ℕ) where
   -- the count of a walk, or of the end that it comes to

@@ -21,7 +21,7 @@ use Rattle.closure.specs.Sets.{LiteralSet, Holds, Within, Least, IsLeast
 use Rattle.closure.specs.Closure.{Contradiction, With, UnitClosed, Rules}
 use Rattle.closure.specs.Marks.{has, isDecided, put, mark, decidedIn, decided, blank, IsMarks}
 use Rattle.closure.specs.Propagation.{Answer, clash, closed, bind, remaining, sweep, sweeps, unitClosure, join, Closes}
-use Rattle.closure.specs.Job.{isFull, End, opened, stopped, Step, skip, halt, kept, broken, refuted, try, stepOf, step}
+use Rattle.closure.specs.Job.{isFull, End, Step, skip, halt, kept, broken, refuted, try, stepOf, step}
 use Rattle.closure.specs.Job.{Walk, walked, ended, unlessFull, after, nextPass, walk, passes, fromClosure, start, jobEnd, EndOk, countOf, marksOf}
 use Rattle.closure.proofs.Sets.{least-within, least-mono}
 use Rattle.closure.proofs.Closure.{contradiction-mono, rules-unit, TrialAt, trial-decided}
@@ -29,25 +29,13 @@ use Rattle.closure.proofs.Marks.{has-consistent, has-mark, or-iff, deci
 use Rattle.closure.proofs.Clauses.{WellFormed}
 use Rattle.closure.proofs.Propagation.{InMarks, unit-closure-ok, unit-closure-marks, closes-same, no-clash, givens-closed}
 
--- Cases that are computed, −v written `negsuc (v - 1)`. Of these clauses the trial of −1 fails, so that +1 joins; that of +1 succeeds.
+-- A case that is computed, −v written `negsuc (v - 1)`. Of these clauses the trial of −1 fails, so that +1 joins; that of +1 succeeds.
 failing : List Clause
 failing = (pos 1 ∷ pos 2 ∷ []) ∷ (pos 1 ∷ negsuc 1 ∷ []) ∷ []
 
 steps : (step failing 9 [] 0 (negsuc 0) ≡ refuted (1 ∷ [])) × (step failing 9 [] 0 (pos 1) ≡ kept)
 unfolding failing step unitClosure sweeps sweep remaining has mark put decidedIn
 steps = (refl, refl)
-
--- Of these the trial of −1 succeeds at first; that of −2 fails; and then, in a second pass, that of −1 fails. The third pass makes no trial.
--- Under the ceiling 2 the job stops in the second.
-delayed : List Clause
-delayed = (pos 2 ∷ pos 3 ∷ []) ∷ (pos 2 ∷ negsuc 2 ∷ []) ∷ (pos 1 ∷ pos 4 ∷ negsuc 1 ∷ []) ∷ (pos 1 ∷ negsuc 3 ∷ negsuc 1 ∷ []) ∷ []
-
-delayedEnd : ℕ → End
-delayedEnd ceiling = passes delayed ceiling 729 (negsuc 0 ∷ negsuc 1 ∷ []) [] 0
-
-jobs : (delayedEnd 9 ≡ opened (1 ∷ 1 ∷ []) 3) × (delayedEnd 2 ≡ stopped (0 ∷ 1 ∷ []) 2)
-unfolding delayedEnd delayed passes walk step unitClosure sweeps sweep remaining has mark put decidedIn
-jobs = (refl, refl)
 
 -- what a job promises of its end: its meaning, at most so many trials, and marks
 pub record JobOk (R : LiteralSet → Type 0) (G : ℤ → Type 0) (bound : ℕ) (e : End) : Type 0 where

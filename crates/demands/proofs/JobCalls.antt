@@ -10,7 +10,7 @@ use borrow.Author.Tests.{eqb-true}
 use lib.Dec.{eqb}
 use lib.IntN.{ℤ}
 use lib.ListN.{length}
-use Rattle.grid.specs.Refusals.{refusal, gridCheck}
+use Rattle.grid.specs.Refusals.{refusal, onAccepted, gridCheck}
 use Rattle.grid.specs.declared.Refusal.{Refusal}
 use Rattle.grid.specs.declared.Checked.{Checked}
 use Rattle.grid.specs.declared.Checked.the-variants as check
@@ -18,8 +18,8 @@ use Rattle.clauses.specs.Clauses.{clausesOf}
 use Rattle.clauses.specs.Models.{givens}
 use Rattle.closure.specs.Job.{End, solved, opened, stopped, contradiction, jobEnd}
 use Rattle.inference.specs.Order.{orderCheck}
-use Rattle.inference.specs.Technique.{techniqueOf}
-use Rattle.inference.specs.Call.{Given, finished, jobOf, onAccepted, onKnown, jobCall}
+use Rattle.inference.specs.Technique.{techniqueOf, onKnown}
+use Rattle.inference.specs.Call.{Given, finished, jobOf, refused, jobCall}
 use Rattle.demands.specs.Jobs.{Ran, IsJob}
 use Rattle.inference.specs.declared.job.JobAnswer.the-variants.{Finished, Refused}
 use Rattle.inference.specs.declared.job.Outcome.{Outcome}
@@ -62,7 +62,8 @@ module _ (g : List ℕ) (n : ℕ) (o : List ℤ) (c : ℕ) (m : List ℕ) where
   by-checks = go (eqb (length m) 729) (gridCheck g) (techniqueOf n) (orderCheck o) refl refl refl refl
     where
       call : Bool → Checked → Numbered → Checked → Given
-      call b x y z = cond b (onAccepted x m λ u. onKnown y m λ t. onAccepted z m λ v. jobOf t g o c) (Refused (refusal 41 0), m)
+      call b x y z =
+          cond b (onAccepted x (refused m) λ u. onKnown y (refused m) λ t. onAccepted z (refused m) λ v. jobOf t g o c) (refused m (refusal 41 0))
 
       go : (b : Bool) (x : Checked) (y : Numbered) (z : Checked) → eqb (length m) 729 ≡ b → gridCheck g ≡ x → techniqueOf n ≡ y → orderCheck o ≡ z
           → Stays (call b x y z) ⊎ Runs (call b x y z)

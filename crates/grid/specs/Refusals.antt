@@ -14,6 +14,11 @@ use Rattle.grid.specs.declared.Checked.the-variants.{Accepted, Refused}
 abbrev pub refusal : ℕ → ℕ → Refusal
 refusal number place = record { number = number; place = place }
 
+-- on where a check accepts; else what a refusal gives
+abbrev pub onAccepted : {A : Type 0} → Checked → (Refusal → A) → (Unit {0} → A) → A
+onAccepted Accepted refused k = k tt
+onAccepted (Refused r) refused k = refused r
+
 -- the place of the first byte of no meaning, or the length
 unfoldable pub firstBad : List ℕ → ℕ
 firstBad g = firstAt (λ b. not (hasMeaning b)) g

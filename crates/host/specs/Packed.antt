@@ -3,6 +3,7 @@
 use mathlib.Core.List.{List}
 use Prim.Native.Nat.{ℕ, _+_, _*_, _%_, _^_}
 use lib.IntN.{ℤ}
+use lib.ListN.{length}
 use Rattle.grid.specs.declared.Refusal.{Refusal}
 use Rattle.grid.specs.declared.Checked.{Checked}
 use Rattle.grid.specs.declared.Checked.the-variants as checked
@@ -18,6 +19,10 @@ use Rattle.grading.specs.declared.search.SearchAnswer.{SearchAnswer}
 use Rattle.grading.specs.declared.search.SearchAnswer.the-variants as search
 use Rattle.grading.specs.declared.grade.GradeAnswer.{GradeAnswer}
 use Rattle.grading.specs.declared.grade.GradeAnswer.the-variants as graded
+use Rattle.batch.specs.Call as batch
+use Rattle.batch.specs.declared.BatchAnswer.{BatchAnswer}
+use Rattle.batch.specs.declared.BatchAnswer.the-variants as each
+use Rattle.listing.specs.Listing.{put}
 
 -- a refusal: its number and its place
 abbrev pub packedRefusal : Refusal → ℕ
@@ -71,3 +76,16 @@ packedGrade (graded.Refused r) = packedRefusal r
 -- with the lent buffer at its return
 abbrev pub packedGraded : grade.Given → ℕ × List ℕ
 packedGraded g = (packedGrade (g .0), g .1)
+
+-- what the batch call answers: 0 where its jobs ran
+abbrev pub packedBatch : BatchAnswer → ℕ
+packedBatch each.Ran = 0
+packedBatch (each.Refused r) = packedRefusal r
+
+-- with the lent marks and the answer list at its return
+abbrev pub packedRan : batch.Given → ℕ × List ℕ × List ℕ
+packedRan g = (packedBatch (g .0), g .1, g .2)
+
+-- what a call that writes a text gives back: the length, and the lent bytes with the text at their start
+abbrev pub written : List ℕ → List ℕ → ℕ × List ℕ
+written text out = (length text, put 0 text out)

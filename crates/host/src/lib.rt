@@ -1,4 +1,4 @@
-// The calls as C functions, for hosts to link. A slice passes as a pointer and a length.
+// The calls as C functions, for hosts to link. A slice passes as a pointer and a length, an array as a pointer.
 //
 //     grader_check_grid       the keyer's check of a grid
 //     grader_is_completion    the test of a legal completion
@@ -6,6 +6,10 @@
 //     grader_job              the job call
 //     grader_search           the search call
 //     grader_grade            the grading call
+//     grader_batch            the batch call
+//     grader_header           the header of a listing
+//     grader_list_line        an output line of a listing
+use batch::BatchAnswer;
 use clauses::ClauseAnswer;
 use grading::grade::GradeAnswer;
 use grading::search::SearchAnswer;
@@ -20,8 +24,11 @@ ghost use Rattle.clauses.specs.Call.{clauseCall};
 ghost use Rattle.inference.specs.Call.{outcomeNumber, jobCall};
 ghost use Rattle.grading.specs.Call.{searchCall};
 ghost use Rattle.grading.specs.Grade.{gradeCall};
+ghost use Rattle.batch.specs.Call.{batchCall};
+ghost use Rattle.listing.specs.Listing.{headerLine, listed};
 ghost use Rattle.host.specs.Packed.{packedRefusal, packedResult, packedCounted, packedCheck, packedClause, packedGiven, packedJob, packedRun};
 ghost use Rattle.host.specs.Packed.{packedSearch, packedFound, packedGrade, packedGraded};
+ghost use Rattle.host.specs.Packed.{packedBatch, packedRan, written};
 
 const RESULT: u64 = 281474976710656;
 
@@ -101,6 +108,15 @@ fn pack_grade(a: GradeAnswer) -> u64
     }
 }
 
+fn pack_batch(a: BatchAnswer) -> u64
+    ensures { λ p. ⌜ p ≡ packedBatch a ⌝ }
+{
+    match a {
+        BatchAnswer::Ran => 0,
+        BatchAnswer::Refused(r) => pack_refusal(r),
+    }
+}
+
 #[no_mangle]
 pub extern "C" fn grader_check_grid(grid: &[u8]) -> u64
     ensures { λ p. ⌜ p ≡ packedCheck (gridCheck (now (grid .entry))) ⌝ }
@@ -157,4 +173,34 @@ pub extern "C" fn grader_grade(
 {
     let answer = grading::grade::grade(grid, order, ceiling, completion);
     pack_grade(answer)
+}
+
+#[no_mangle]
+pub extern "C" fn grader_batch(
+    grids: &[u8],
+    technique: u32,
+    order: &[i16],
+    ceiling: u32,
+    marks: &mut [u8],
+    answers: &mut [u32],
+) -> u64
+    ensures { λ p. ⌜ (p, now (marks .exit), now (answers .exit))
+        ≡ packedRan (batchCall (now (grids .entry)) technique (now (order .entry)) ceiling (now (marks .entry)) (now (answers .entry))) ⌝ }
+{
+    let answer = batch::batch(grids, technique, order, ceiling, marks, answers);
+    pack_batch(answer)
+}
+
+#[no_mangle]
+pub extern "C" fn grader_header(out: &mut [u8; 20])
+    ensures { λ _. ⌜ now (out .exit) ≡ headerLine ⌝ }
+{
+    *out = listing::header();
+}
+
+#[no_mangle]
+pub extern "C" fn grader_list_line(number: u64, line: &[u8], out: &mut [u8; 64]) -> usize
+    ensures { λ r. ⌜ (r, now (out .exit)) ≡ written (listed number (now (line .entry))) (now (out .entry)) ⌝ }
+{
+    listing::list_line(number, line, out)
 }

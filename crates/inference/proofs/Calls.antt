@@ -8,26 +8,25 @@ use borrow.Author.Tests.{eqb-true, eq-eqb, ne-eqb}
 use lib.Dec.{eqb}
 use lib.IntN.{ℤ}
 use lib.ListN.{length}
-use Rattle.grid.specs.Refusals.{refusal, gridCheck}
+use Rattle.grid.specs.Refusals.{refusal, onAccepted, gridCheck}
 use Rattle.grid.specs.declared.Checked.{Checked}
 use Rattle.grid.specs.declared.Checked.the-variants as check
 use Rattle.grid.proofs.Completion.{not-accepted}
 use Rattle.inference.specs.Order.{orderCheck}
-use Rattle.inference.specs.Technique.{techniqueOf}
-use Rattle.inference.specs.Call.{Given, jobOf, onAccepted, onKnown, jobCall}
-use Rattle.inference.specs.declared.job.JobAnswer.the-variants.{Refused}
+use Rattle.inference.specs.Technique.{techniqueOf, onKnown}
+use Rattle.inference.specs.Call.{jobOf, refused, jobCall}
 use Rattle.inference.specs.declared.technique.Numbered.{Numbered}
 
 -- the call by what its checks say
 module _ (g : List ℕ) (n : ℕ) (o : List ℤ) (c : ℕ) (m : List ℕ) where
-  pub call-short : (length m ≡ 729 → ⊥) → _≡_ {A = Given} (Refused (refusal 41 0), m) (jobCall g n o c m)
+  pub call-short : (length m ≡ 729 → ⊥) → refused m (refusal 41 0) ≡ jobCall g n o c m
   unfolding jobCall
   call-short h =
-      ap (λ b. cond b (onAccepted (gridCheck g) m λ u. onKnown (techniqueOf n) m λ t. onAccepted (orderCheck o) m λ v. jobOf t g o c) (Refused (refusal 41 0), m))
-      (sym (ne-eqb (length m) 729 h))
+      ap (λ b. cond b (onAccepted (gridCheck g) (refused m) λ u. onKnown (techniqueOf n) (refused m) λ t. onAccepted (orderCheck o) (refused m) λ v. jobOf t g o c)
+      (refused m (refusal 41 0))) (sym (ne-eqb (length m) 729 h))
 
   pub call-checked : length m ≡ 729 → (x : Checked) (y : Numbered) (z : Checked) → x ≡ gridCheck g → y ≡ techniqueOf n → z ≡ orderCheck o
-      → onAccepted x m (λ u. onKnown y m λ t. onAccepted z m λ v. jobOf t g o c) ≡ jobCall g n o c m
+      → onAccepted x (refused m) (λ u. onKnown y (refused m) λ t. onAccepted z (refused m) λ v. jobOf t g o c) ≡ jobCall g n o c m
   unfolding jobCall
   call-checked h x y z p q r = rw (eq-eqb (length m) 729 h, ← p, ← q, ← r) refl
 

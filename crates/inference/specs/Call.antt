@@ -5,21 +5,18 @@ use Prim.Native.Nat.{ℕ}
 use lib.Dec.{eqb}
 use lib.IntN.{ℤ}
 use lib.ListN.{length}
-use Rattle.grid.specs.Refusals.{refusal, gridCheck}
-use Rattle.grid.specs.declared.Checked.{Checked}
-use Rattle.grid.specs.declared.Checked.the-variants as check
+use Rattle.grid.specs.Refusals.{refusal, onAccepted, gridCheck}
+use Rattle.grid.specs.declared.Refusal.{Refusal}
 use Rattle.clauses.specs.Clauses.{clausesOf}
 use Rattle.clauses.specs.Models.{givens}
 use Rattle.closure.specs.Marks.{blank}
 use Rattle.closure.specs.Job.{End, solved, opened, stopped, contradiction, jobEnd}
 use Rattle.inference.specs.Order.{orderCheck}
-use Rattle.inference.specs.Technique.{techniqueOf}
+use Rattle.inference.specs.Technique.{techniqueOf, onKnown}
 use Rattle.inference.specs.declared.job.JobAnswer.{JobAnswer}
 use Rattle.inference.specs.declared.job.JobAnswer.the-variants.{Finished, Refused}
 use Rattle.inference.specs.declared.job.Outcome.{Outcome}
 use Rattle.inference.specs.declared.job.Outcome.the-variants.{Solved, Open, Stopped, Contradiction}
-use Rattle.inference.specs.declared.technique.Numbered.{Numbered}
-use Rattle.inference.specs.declared.technique.Numbered.the-variants.{Known, Unknown}
 use Rattle.inference.specs.declared.technique.Technique.{Technique}
 
 -- 01's numbers of the outcomes
@@ -44,19 +41,13 @@ finished (contradiction n) = (Finished Contradiction n, blank)
 unfoldable pub jobOf : Technique → List ℕ → List ℤ → ℕ → Given
 jobOf t g o c = finished (jobEnd (clausesOf (t .set)) c (t .trials) o (givens g))
 
--- on where a check accepts; a refusal changes nothing
-abbrev pub onAccepted : Checked → List ℕ → (Unit {0} → Given) → Given
-onAccepted check.Accepted m k = k tt
-onAccepted (check.Refused r) m k = (Refused r, m)
-
--- on where there is a technique of that number; 21: there is none
-abbrev pub onKnown : Numbered → List ℕ → (Technique → Given) → Given
-onKnown (Known t) m k = k t
-onKnown Unknown m k = (Refused (refusal 21 0), m)
+-- a refusal changes nothing
+abbrev pub refused : List ℕ → Refusal → Given
+refused m r = (Refused r, m)
 
 -- 41: not 729 marks; then the keyer's check, the technique, and the operator's check of the order
 unfoldable pub jobCall : List ℕ → ℕ → List ℤ → ℕ → List ℕ → Given
 jobCall g n o c m =
     cond (eqb (length m) 729)
-    (onAccepted (gridCheck g) m λ u. onKnown (techniqueOf n) m λ t. onAccepted (orderCheck o) m λ v. jobOf t g o c)
-    (Refused (refusal 41 0), m)
+    (onAccepted (gridCheck g) (refused m) λ u. onKnown (techniqueOf n) (refused m) λ t. onAccepted (orderCheck o) (refused m) λ v. jobOf t g o c)
+    (refused m (refusal 41 0))

@@ -2,6 +2,8 @@
 use mathlib.Core.Bool.{true, false, cond}
 use Prim.Native.Nat.{ℕ}
 use lib.Dec.{T, eqb}
+use Rattle.grid.specs.Refusals.{refusal}
+use Rattle.grid.specs.declared.Refusal.{Refusal}
 use Rattle.clauses.specs.declared.ClauseSet.{ClauseSet}
 use Rattle.clauses.specs.declared.ClauseSet.the-variants.{Minimal, Extended}
 use Rattle.inference.specs.declared.technique.Technique.{Technique}
@@ -29,6 +31,11 @@ unfoldable pub techniqueOf : ℕ → Numbered
 techniqueOf n =
     cond (eqb n 1) (Known unitMinimal)
     (cond (eqb n 2) (Known unitExtended) (cond (eqb n 3) (Known trialsMinimal) (cond (eqb n 4) (Known trialsExtended) Unknown)))
+
+-- on where there is a technique; 21: there is none
+abbrev pub onKnown : {A : Type 0} → Numbered → (Refusal → A) → (Technique → A) → A
+onKnown (Known t) refused k = k t
+onKnown Unknown refused k = refused (refusal 21 0)
 
 -- the clauses of one set are among those of the other
 abbrev pub SetWithin : ClauseSet → ClauseSet → Type 0

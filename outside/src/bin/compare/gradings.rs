@@ -28,9 +28,12 @@ pub fn gradings(grids: &[Grid]) -> Tally {
     let mut kinds = order_faults().to_vec();
     kinds.extend(grid_faults());
     kinds.push(buffer_faults(0, CELLS));
-    tally.refused(&GRADE, &mut random, &kinds, |random| {
+    let few_trials = |random: &mut Random| {
         let ceiling = random.below(20) as u32;
         lent(AI_ESCARGOT, any_order(random), ceiling)
+    };
+    tally.refused(&mut random, &kinds, few_trials, |tally, lent| {
+        let _ = tally.call(&GRADE, lent);
     });
     for grid in [VERDICT_FOUR, AI_ESCARGOT] {
         for order in random.orders() {

@@ -28,12 +28,15 @@ pub fn jobs(grids: &[Grid]) -> Tally {
     kinds.push(technique_faults());
     kinds.extend(grid_faults());
     kinds.push(buffer_faults(0, VARIABLES));
-    tally.refused(&JOB, &mut random, &kinds, |random| Lent {
+    let lent = |random: &mut Random| Lent {
         grid: AI_ESCARGOT.to_vec(),
         technique: 1 + random.below(4) as u32,
         order: any_order(random),
         ceiling: random.below(20) as u32,
         buffers: [VARIABLES],
+    };
+    tally.refused(&mut random, &kinds, lent, |tally, lent| {
+        let _ = tally.call(&JOB, lent);
     });
     for grid in named() {
         for technique in 1..=4 {

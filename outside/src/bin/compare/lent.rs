@@ -1,11 +1,15 @@
 //! What a call is lent, the faults that it can have, and the comparison of one call: the answer and
 //! every byte of the buffers that it writes, with guards around them.
 
-use crate::{first_differing, shown, Tally, GUARD};
+use crate::{shown, Tally};
 use reference::cases::Random;
 use reference::grid::CELLS;
 use reference::order::ENTRIES;
 use reference::refusal::Refusal;
+use std::fmt::{self, Display, Formatter};
+
+/// Elements around the lent part that no call may touch.
+const GUARD: usize = 16;
 
 /// Rounds over all sets of faults.
 const FAULT_ROUNDS: usize = 20;
@@ -30,33 +34,76 @@ pub struct Call<const N: usize> {
     pub proved: fn(&Lent<N>, [&mut [u8]; N]) -> Answer,
 }
 
+/// A buffer that the reference and the proved library are lent, each with guards around its own.
+pub struct Twice<T> {
+    pattern: Vec<T>,
+    ours: Vec<T>,
+    theirs: Vec<T>,
+}
+
+impl<T: Copy + PartialEq> Twice<T> {
+    /// Both with a pattern in the buffer and in the guards.
+    pub fn new(length: usize, pattern: impl Iterator<Item = T>) -> Twice<T> {
+        let pattern: Vec<T> = pattern.take(length + 2 * GUARD).collect();
+        Twice {
+            ours: pattern.clone(),
+            theirs: pattern.clone(),
+            pattern,
+        }
+    }
+
+    /// The reference's buffer.
+    pub fn ours(&mut self) -> &mut [T] {
+        lent_part(&mut self.ours)
+    }
+
+    /// The proved library's buffer.
+    pub fn theirs(&mut self) -> &mut [T] {
+        lent_part(&mut self.theirs)
+    }
+
+    /// What a refused call must leave.
+    pub fn refused(&mut self) {
+        self.ours.copy_from_slice(&self.pattern);
+    }
+
+    /// The elements at which the two first differ, the guards too, each with its place from the start
+    /// of the lent part; none if they are equal.
+    pub fn first_differing(&self) -> [Option<(isize, T)>; 2] {
+        let mut pairs = self.ours.iter().zip(&self.theirs);
+        let place = pairs.position(|(our, their)| our != their);
+        [&self.ours, &self.theirs]
+            .map(|buffer| place.map(|place| (place as isize - GUARD as isize, buffer[place])))
+    }
+}
+
+fn lent_part<T>(buffer: &mut [T]) -> &mut [T] {
+    let end = buffer.len() - GUARD;
+    &mut buffer[GUARD..end]
+}
+
+/// Bytes that no call writes.
+pub fn no_marks() -> impl Iterator<Item = u8> {
+    (100..200).cycle()
+}
+
 impl Tally {
     /// One call, with the reference's answer. The buffers are lent with a pattern of bytes that no
     /// call writes, and keep it if the call is refused.
     pub fn call<const N: usize>(&mut self, call: &Call<N>, lent: &Lent<N>) -> Answer {
-        let length = lent.buffers.iter().sum::<usize>() + (N + 1) * GUARD;
-        let pattern: Vec<u8> = (100..200).cycle().take(length).collect();
-        let (mut ours, mut theirs) = (pattern.clone(), pattern.clone());
-        let reference = (call.reference)(lent, parts(&mut ours, lent.buffers));
-        let proved = (call.proved)(lent, parts(&mut theirs, lent.buffers));
+        let mut buffers = lent.buffers.map(|length| Twice::new(length, no_marks()));
+        let reference = (call.reference)(lent, buffers.each_mut().map(Twice::ours));
+        let proved = (call.proved)(lent, buffers.each_mut().map(Twice::theirs));
         if reference.is_err() {
-            ours = pattern;
+            buffers.iter_mut().for_each(Twice::refused);
         }
-        let [our, their] = first_differing([&ours, &theirs]);
-        self.case((proved, their), (reference, our), || {
-            format!(
-                "{}, grid {}, technique {}, ceiling {}, buffers of {:?}, order of {} from {:?}",
-                call.name,
-                shown(&lent.grid),
-                lent.technique,
-                lent.ceiling,
-                lent.buffers,
-                lent.order.len(),
-                &lent.order[..lent.order.len().min(9)]
-            )
-        });
-        let number = reference.map_or_else(|refusal| refusal.number, |(value, _)| value);
-        *self.answers.entry(number).or_default() += 1;
+        let differing = buffers.each_ref().map(Twice::first_differing);
+        self.case(
+            (proved, differing.map(|[_, their]| their)),
+            (reference, differing.map(|[our, _]| our)),
+            || format!("{}, {lent}", call.name),
+        );
+        self.answered(reference.map_or_else(|refusal| refusal.number, |(value, _)| value));
         reference
     }
 
@@ -65,17 +112,17 @@ impl Tally {
     /// with no fault runs.
     pub fn refused<const N: usize>(
         &mut self,
-        call: &Call<N>,
         random: &mut Random,
         kinds: &[Vec<Fault>],
         lent: impl Fn(&mut Random) -> Lent<N>,
+        call: impl Fn(&mut Tally, &Lent<N>),
     ) {
         let mut with = |random: &mut Random, faults: &[Fault]| {
             let mut lent = lent(random);
             for &fault in faults {
                 lent.with(fault);
             }
-            let _ = self.call(call, &lent);
+            call(self, &lent);
         };
         for fault in kinds.concat() {
             with(random, &[fault]);
@@ -90,15 +137,19 @@ impl Tally {
     }
 }
 
-/// The lent parts of some bytes, with a guard before each and after the last.
-fn parts<const N: usize>(bytes: &mut [u8], lengths: [usize; N]) -> [&mut [u8]; N] {
-    let mut rest = bytes;
-    lengths.map(|length| {
-        let (_guard, from_here) = std::mem::take(&mut rest).split_at_mut(GUARD);
-        let (part, after) = from_here.split_at_mut(length);
-        rest = after;
-        part
-    })
+impl<const N: usize> Display for Lent<N> {
+    fn fmt(&self, out: &mut Formatter) -> fmt::Result {
+        write!(
+            out,
+            "grid {}, technique {}, ceiling {}, buffers of {:?}, order of {} from {:?}",
+            shown(&self.grid),
+            self.technique,
+            self.ceiling,
+            self.buffers,
+            self.order.len(),
+            &self.order[..self.order.len().min(9)]
+        )
+    }
 }
 
 pub fn any_order(random: &mut Random) -> Vec<i16> {
@@ -161,12 +212,14 @@ pub fn technique_faults() -> Vec<Fault> {
         .to_vec()
 }
 
+/// Bytes of no meaning in a grid.
+pub const MEANINGLESS: [u8; 10] = *b"/:-x \n\0\x80\xb1\xff";
+
 /// The faults behind 12 and 11.
 pub fn grid_faults() -> [Vec<Fault>; 2] {
-    let bytes = *b"/:-x \n\0\x80\xb1\xff";
     [
         (0..CELLS)
-            .flat_map(|place| bytes.map(|byte| Fault::Byte(place, byte)))
+            .flat_map(|place| MEANINGLESS.map(|byte| Fault::Byte(place, byte)))
             .collect(),
         lengths_around(CELLS).map(Fault::Cells).to_vec(),
     ]
@@ -179,6 +232,6 @@ pub fn buffer_faults(number: usize, length: usize) -> Vec<Fault> {
         .to_vec()
 }
 
-fn lengths_around(length: usize) -> [usize; 5] {
+pub fn lengths_around(length: usize) -> [usize; 5] {
     [0, 1, length - 1, length + 1, 2 * length]
 }

@@ -1,14 +1,19 @@
 //! Compares the proved library with the reference: the clause call, the grid check, the completion
-//! test, jobs, searches and gradings, each on well-formed and on broken input. A file of grids, one a
-//! line, may be named as the argument; jobs, searches and gradings run on them too. It prints the
-//! number of cases of each kind and the first difference with its input; the exit status is 1 at any
-//! difference.
+//! test, jobs, searches, gradings, batches, job files and the lines of listings, each on well-formed and
+//! on broken input; and the program `gradelist`, which the variable GRADELIST names. A file of grids,
+//! one a line, may be named as the argument; jobs, searches, gradings, batches and listings run on them
+//! too. It prints the number of cases of each kind and the first difference with its input; the exit
+//! status is 1 at any difference.
 
+mod batches;
 mod gradings;
+mod jobfiles;
 mod jobs;
 mod lent;
+mod listings;
 mod searches;
 
+use lent::Twice;
 use reference::cases::{named, Grid, Random};
 use reference::clauses;
 use reference::grid::{self, CELLS};
@@ -16,8 +21,9 @@ use reference::proved;
 use reference::search::smallest_two;
 use std::collections::BTreeMap;
 use std::fmt::Debug;
+use std::path::Path;
 use std::process::ExitCode;
-use std::{env, fs};
+use std::{env, fs, io, iter, thread};
 
 #[derive(Default)]
 struct Tally {
@@ -44,23 +50,49 @@ impl Tally {
             });
         }
     }
+
+    /// Counts one answer of the reference.
+    fn answered(&mut self, number: u8) {
+        *self.answers.entry(number).or_default() += 1;
+    }
 }
 
 /// Rounds of generated grids, one of each kind a round.
 const ROUNDS: usize = 260;
 
 fn main() -> Result<ExitCode, String> {
+    let program = env::var_os("GRADELIST").ok_or("set GRADELIST to the path of the program")?;
     let lent = env::args().nth(1).map_or(Ok(Vec::new()), read_grids)?;
     let mut grids = generated(&mut Random(4));
     grids.extend(&lent);
-    let tallies = [
-        ("clause calls", clause_calls()),
-        ("grid checks", grid_checks()),
-        ("completion tests", completion_tests()),
-        ("jobs by outcome or refusal", jobs::jobs(&grids)),
-        ("searches by answer or refusal", searches::searches(&grids)),
-        ("gradings by verdict or refusal", gradings::gradings(&grids)),
-    ];
+    let tallies = thread::scope(|scope| {
+        let jobs = scope.spawn(|| jobs::jobs(&grids));
+        let gradings = scope.spawn(|| gradings::gradings(&grids));
+        let batches = scope.spawn(|| batches::batches(&grids));
+        let listings = scope.spawn(|| listings::listings(&grids, Path::new(&program)));
+        let searches = searches::searches(&grids);
+        let ended = "no comparison panics";
+        let [lines, runs] = listings.join().expect(ended)?;
+        io::Result::Ok([
+            ("clause calls", clause_calls()),
+            ("grid checks", grid_checks()),
+            ("completion tests", completion_tests()),
+            ("jobs by outcome or refusal", jobs.join().expect(ended)),
+            ("searches by answer or refusal", searches),
+            (
+                "gradings by verdict or refusal",
+                gradings.join().expect(ended),
+            ),
+            (
+                "batches, with jobs by outcome, or by refusal",
+                batches.join().expect(ended),
+            ),
+            ("job files by technique or refusal", jobfiles::job_files()),
+            ("lines of listings by verdict or refusal", lines),
+            ("runs of gradelist, with lines by verdict or refusal", runs),
+        ])
+    });
+    let tallies = tallies.map_err(|error| format!("gradelist: {error}"))?;
     println!("compare, with {} lent grids:", lent.len());
     for (name, tally) in &tallies {
         println!("{} {name} {:?}", tally.cases, tally.answers);
@@ -113,9 +145,6 @@ const LIMITS: [u32; 10] = [
 /// padding.
 const FILLS: [i16; 3] = [365, -21_846, 0];
 
-/// Elements around the lent part that no call may touch.
-const GUARD: usize = 16;
-
 fn clause_calls() -> Tally {
     let mut tally = Tally::default();
     for set in [1, 2] {
@@ -154,24 +183,14 @@ fn clause_calls() -> Tally {
 /// One clause call over each fill. The buffers are compared with their guards.
 fn clause_call(tally: &mut Tally, set: u32, number: u32, length: usize) {
     for fill in FILLS {
-        let lent = GUARD..GUARD + length;
-        let mut ours = vec![fill; length + 2 * GUARD];
-        let mut theirs = ours.clone();
-        let reference = clauses::clause(set, number, &mut ours[lent.clone()]);
-        let proved = proved::clause(set, number, &mut theirs[lent]);
-        let [our, their] = first_differing([&ours, &theirs]);
+        let mut literals = Twice::new(length, iter::repeat(fill));
+        let reference = clauses::clause(set, number, literals.ours());
+        let proved = proved::clause(set, number, literals.theirs());
+        let [our, their] = literals.first_differing();
         tally.case((proved, their), (reference, our), || {
             format!("clause call, set {set}, number {number}, {length} literals of {fill}")
         });
     }
-}
-
-/// The elements at which two lent buffers with their guards first differ, each with its place from
-/// the start of the lent part; none if the buffers are equal.
-fn first_differing<T: Copy + PartialEq>(buffers: [&[T]; 2]) -> [Option<(isize, T)>; 2] {
-    let [ours, theirs] = buffers;
-    let differing = (0..ours.len()).find(|&place| ours[place] != theirs[place]);
-    buffers.map(|buffer| differing.map(|place| (place as isize - GUARD as isize, buffer[place])))
 }
 
 fn grid_checks() -> Tally {

@@ -26,7 +26,14 @@ pub fn searches(grids: &[Grid]) -> Tally {
     let mut random = Random(6);
     let mut kinds = grid_faults().to_vec();
     kinds.extend([0, 1].map(|number| buffer_faults(number, CELLS)));
-    tally.refused(&SEARCH, &mut random, &kinds, |_| lent(AI_ESCARGOT));
+    tally.refused(
+        &mut random,
+        &kinds,
+        |_| lent(AI_ESCARGOT),
+        |tally, lent| {
+            let _ = tally.call(&SEARCH, lent);
+        },
+    );
     for grid in grids.iter().chain(&named()) {
         let _ = tally.call(&SEARCH, &lent(grid));
         for _ in 0..TURNED {

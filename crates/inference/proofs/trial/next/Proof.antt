@@ -64,7 +64,7 @@ undecided c =
 returns-2 : tie.Need-returns-2
 returns-2 c =
     let a = c .before .before .before .before in
-    (next-halt (clausesOf (a .args .set)) (a .args .ceiling) (marks a) (a .args .count) (l a) (a .args .failed) (undecided (c .before)) (c .if2 .taken), a .pre .0, a .pre .1)
+    (next-halt (clausesOf (a .args .set)) (a .args .ceiling) (marks a) (a .args .count) (l a) (a .args .failed) (undecided (c .before)) (omega (arith, c .if2 .taken, a .pre .3)), a .pre .0, a .pre .1)
 
 attempt-requires : tie.Need-attempt-requires
 attempt-requires c κs =
@@ -82,21 +82,21 @@ module _ (c : tie.After-attempt) where
   abbrev m' : List ℕ
   m' = c .attempt .last .0
 
+  -- there is room for one trial more
+  below : first .args .count < first .args .ceiling
+  below = omega (arith, first .pre .3, tested .if2 .left)
+
   -- what the trial shows, in the steps
   tried : (s : Shown) → c .attempt .result ≡ s → thereafter first (triedOf s m') ≡ Next first
   tried s e =
       let cs = clausesOf (first .args .set) in
-      next-tried cs (first .args .ceiling) (marks first) (first .args .count) (l first) (first .args .failed) (undecided (tested .before)) (tested .if2 .left) (triedOf s m')
+      next-tried cs (first .args .ceiling) (marks first) (first .args .count) (l first) (first .args .failed) (undecided (tested .before)) (λ q. omega (arith, below, q)) (triedOf s m')
       (ap (λ x. triedOf x m') (sym e) ∙ c .attempt .ensures .0
       ∙ ap (λ x. try (unitClosure cs (mark (marks first) x)) (λ u. unitClosure cs (mark (marks first) (negℤ x)))) (read (l first) (first .fits .literal)))
 
   -- what it leaves
   left : (s : Shown) → c .attempt .result ≡ s → TriedOk (marks first) m' s
   left s e = subst (TriedOk (marks first) m') e (c .attempt .ensures .2)
-
-  -- there is room for one trial more
-  below : first .args .count < first .args .ceiling
-  below = omega (arith, first .pre .3, tested .if2 .left)
 
   room : Fits w32 (first .args .count + 1)
   room = omega (arith, below, first .fits .ceiling)
