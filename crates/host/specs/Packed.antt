@@ -22,6 +22,9 @@ use Rattle.grading.specs.declared.grade.GradeAnswer.the-variants as graded
 use Rattle.batch.specs.Call as batch
 use Rattle.batch.specs.declared.BatchAnswer.{BatchAnswer}
 use Rattle.batch.specs.declared.BatchAnswer.the-variants as each
+use Rattle.jobfile.specs.Call as reading
+use Rattle.jobfile.specs.declared.ReadAnswer.{ReadAnswer}
+use Rattle.jobfile.specs.declared.ReadAnswer.the-variants as file
 use Rattle.listing.specs.Listing.{put}
 
 -- a refusal: its number and its place
@@ -85,6 +88,15 @@ packedBatch (each.Refused r) = packedRefusal r
 -- with the lent marks and the answer list at its return
 abbrev pub packedRan : batch.Given → ℕ × List ℕ × List ℕ
 packedRan g = (packedBatch (g .0), g .1, g .2)
+
+-- what the reading of a job file answers: the technique's number and the ceiling
+abbrev pub packedRead : ReadAnswer → ℕ
+packedRead (file.Read t c) = packedCounted t c
+packedRead (file.Refused r) = packedRefusal r
+
+-- with the lent grid and the lent order at its return
+abbrev pub packedFile : reading.Given → ℕ × List ℕ × List ℤ
+packedFile g = (packedRead (g .0), g .1, g .2)
 
 -- what a call that writes a text gives back: the length, and the lent bytes with the text at their start
 abbrev pub written : List ℕ → List ℕ → ℕ × List ℕ

@@ -7,6 +7,7 @@
 //     grader_search           the search call
 //     grader_grade            the grading call
 //     grader_batch            the batch call
+//     grader_read_job_file    the reading of a job file
 //     grader_header           the header of a listing
 //     grader_list_line        an output line of a listing
 use batch::BatchAnswer;
@@ -17,6 +18,7 @@ use grid::Checked;
 use grid::Refusal;
 use inference::job::JobAnswer;
 use inference::job::Outcome;
+use jobfile::ReadAnswer;
 ghost use mathlib.Core.Path.{_≡_};
 ghost use Rattle.grid.specs.Completion.{isCompletion};
 ghost use Rattle.grid.specs.Refusals.{gridCheck};
@@ -25,10 +27,11 @@ ghost use Rattle.inference.specs.Call.{outcomeNumber, jobCall};
 ghost use Rattle.grading.specs.Call.{searchCall};
 ghost use Rattle.grading.specs.Grade.{gradeCall};
 ghost use Rattle.batch.specs.Call.{batchCall};
+ghost use Rattle.jobfile.specs.Call.{readCall};
 ghost use Rattle.listing.specs.Listing.{headerLine, listed};
 ghost use Rattle.host.specs.Packed.{packedRefusal, packedResult, packedCounted, packedCheck, packedClause, packedGiven, packedJob, packedRun};
 ghost use Rattle.host.specs.Packed.{packedSearch, packedFound, packedGrade, packedGraded};
-ghost use Rattle.host.specs.Packed.{packedBatch, packedRan, written};
+ghost use Rattle.host.specs.Packed.{packedBatch, packedRan, packedRead, packedFile, written};
 
 const RESULT: u64 = 281474976710656;
 
@@ -117,6 +120,15 @@ fn pack_batch(a: BatchAnswer) -> u64
     }
 }
 
+fn pack_read(a: ReadAnswer) -> u64
+    ensures { λ p. ⌜ p ≡ packedRead a ⌝ }
+{
+    match a {
+        ReadAnswer::Read(t, c) => pack_counted(t as usize, c),
+        ReadAnswer::Refused(r) => pack_refusal(r),
+    }
+}
+
 #[no_mangle]
 pub extern "C" fn grader_check_grid(grid: &[u8]) -> u64
     ensures { λ p. ⌜ p ≡ packedCheck (gridCheck (now (grid .entry))) ⌝ }
@@ -189,6 +201,15 @@ pub extern "C" fn grader_batch(
 {
     let answer = batch::batch(grids, technique, order, ceiling, marks, answers);
     pack_batch(answer)
+}
+
+#[no_mangle]
+pub extern "C" fn grader_read_job_file(file: &[u8], grid: &mut [u8], order: &mut [i16]) -> u64
+    ensures { λ p. ⌜ (p, now (grid .exit), now (order .exit))
+        ≡ packedFile (readCall (now (file .entry)) (now (grid .entry)) (now (order .entry))) ⌝ }
+{
+    let answer = jobfile::read(file, grid, order);
+    pack_read(answer)
 }
 
 #[no_mangle]
