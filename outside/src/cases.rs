@@ -63,8 +63,16 @@ pub fn named() -> Vec<Grid> {
 
 /// Grids that cost a search much: few givens, no completion, or the first only after long.
 pub fn bad() -> Vec<Grid> {
-    include_str!("../bad-grids")
-        .lines()
+    lines(include_str!("../bad-grids"))
+}
+
+/// Such grids of which the reference's search takes too long to compare with.
+pub fn slow() -> Vec<Grid> {
+    lines(include_str!("../slow-grids"))
+}
+
+fn lines(text: &str) -> Vec<Grid> {
+    text.lines()
         .map(|line| Grid::try_from(line.as_bytes()).expect("81 bytes a line"))
         .collect()
 }

@@ -94,7 +94,9 @@ impl Search {
                     continue;
                 }
                 let Some(next) = self.closed_with(&state, -literal) else {
-                    self.failures[place] = (self.failures[place] + 1).min(1_000_000);
+                    if self.failures[place] < 1_000_000 {
+                        self.failures[place] += 4;
+                    }
                     return None;
                 };
                 state = next;
@@ -133,11 +135,11 @@ impl Search {
 }
 
 /// How large the tree below a place is taken to be, by the number of places that its trial decides:
-/// half as large for each 16.
+/// half as large for each 12.
 fn weight(decided: usize) -> u32 {
-    let halvings = decided / 16;
+    let halvings = decided / 12;
     if halvings < 32 {
-        ((32 - decided % 16) as u32 * (1 << 26)) >> halvings
+        ((24 - decided % 12) as u32 * (1 << 26)) >> halvings
     } else {
         0
     }

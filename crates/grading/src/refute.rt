@@ -128,11 +128,11 @@ fn dive(marks: &mut [u8; 729], decided: usize) -> bool
     true
 }
 
-// How large the tree below a place is taken to be, by the number of places that its trial decides: half as large for each 16.
+// How large the tree below a place is taken to be, by the number of places that its trial decides: half as large for each 12.
 fn weight(decided: usize) -> u32 {
-    let halvings = decided / 16;
+    let halvings = decided / 12;
     if halvings < 32 {
-        (32 - decided % 16) as u32 * 67108864 >> halvings
+        (24 - decided % 12) as u32 * 67108864 >> halvings
     } else {
         0
     }

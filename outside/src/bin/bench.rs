@@ -4,7 +4,7 @@
 //! cost much. It checks first that both give equal answers; no figure makes it fail. Where qqwing is
 //! installed, the proved search stands beside it too.
 
-use reference::cases::{bad, Grid, Random, AI_ESCARGOT, FIGURE_FIVE};
+use reference::cases::{bad, slow, Grid, Random, AI_ESCARGOT, FIGURE_FIVE};
 use reference::clauses::clause_set;
 use reference::grid::{CELLS, VARIABLES};
 use reference::order::default_order;
@@ -57,7 +57,7 @@ fn main() -> Result<(), String> {
         beside_qqwing(name, grids).map_err(|error| format!("qqwing: {error}"))?;
         gradings(name, grids)?;
     }
-    let bad = bad();
+    let bad = [bad(), slow()].concat();
     let timed = bad.iter().map(|grid| (search_time(&[*grid], 1), grid));
     let slowest = timed.max_by(|(one, _), (other, _)| one.total_cmp(other));
     let (_, slowest) = slowest.ok_or("the collection is empty")?;

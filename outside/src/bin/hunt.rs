@@ -1,11 +1,11 @@
-//! Hunts for grids that cost the search most. It first measures the collection `bad-grids` with the
-//! plain search. Then it climbs from turned grids of the collection, each climb among grids with as
+//! Hunts for grids that cost the search most. It first measures `bad-grids` and `slow-grids` with
+//! the plain search. Then it climbs from turned grids of the collection, each climb among grids with as
 //! many completions as its start: a few givens change, and the change stays unless the search has to
 //! decide markedly fewer places. Arguments: the seconds to climb (default 60) and a seed (default 1).
 //! It prints the top of each climb that costs at least half as much as the worst of the collection
 //! with as many completions.
 
-use reference::cases::{bad, Grid, Random};
+use reference::cases::{bad, slow, Grid, Random};
 use reference::grid::is_given;
 use reference::plain_search::Search;
 use std::env;
@@ -68,7 +68,8 @@ fn main() -> Result<(), String> {
     let seconds = numbers.next().unwrap_or(Ok(60))?;
     let mut random = Random(numbers.next().unwrap_or(Ok(1))?);
 
-    let collection: Vec<Cost> = bad().into_iter().map(Cost::of).collect();
+    let collection = [bad(), slow()].concat();
+    let collection: Vec<Cost> = collection.into_iter().map(Cost::of).collect();
     let mut worst = [0; 3];
     for (completions, kind) in ["none", "one", "several"].into_iter().enumerate() {
         let of_kind = || {

@@ -4,9 +4,10 @@
 //! first completion blocked it must be satisfiable exactly when the search finds several. The exit
 //! status is 1 at any difference.
 
-use reference::cases::{bad, named, Grid, Random};
+use reference::cases::{bad, named, slow, Grid, Random};
 use reference::dimacs::{blocking, read_model, write};
 use reference::grid::is_completion;
+use reference::plain_search::Search;
 use reference::search::smallest_two;
 use std::path::Path;
 use std::process::{Command, ExitCode, Stdio};
@@ -53,7 +54,9 @@ fn main() -> ExitCode {
     }
 }
 
-fn grids() -> Vec<Grid> {
+/// Grids with the smallest two of their completions, by the reference's search, or by the plain one
+/// where the reference's takes long.
+fn searched() -> Vec<(Grid, Vec<Grid>)> {
     let mut random = Random(1);
     let mut grids = [named(), bad()].concat();
     for blanks in (0..GENERATED_OF_EACH_KIND).map(|round| 24 + round) {
@@ -61,15 +64,18 @@ fn grids() -> Vec<Grid> {
         grids.push(random.with_one(blanks));
         grids.push(random.with_several(blanks));
     }
-    grids
+    let by_reference = grids.into_iter().map(|grid| (grid, smallest_two(&grid)));
+    let by_plain = slow()
+        .into_iter()
+        .map(|grid| (grid, Search::of(&grid).found));
+    by_reference.chain(by_plain).collect()
 }
 
 /// The closing line with the numbers of cases, or the first difference.
 fn compare_all(folder: &Path) -> Result<String, String> {
     let mut kinds = [0; 3];
     let mut runs = 0;
-    for grid in grids() {
-        let found = smallest_two(&grid);
+    for (grid, found) in searched() {
         kinds[found.len()] += 1;
         for set in [1, 2] {
             for solver in &SOLVERS {

@@ -1,12 +1,13 @@
 //! Searches: the number of completions and both buffers on named, lent and generated grids, each as
-//! it is and turned, and on those that cost a search much. Refused searches: every refusal at its
+//! it is and turned, and on those that cost a search much: where the reference's takes too long, beside
+//! the plain one. Refused searches: every refusal at its
 //! boundaries, alone and with all others.
 
 use crate::lent::{buffer_faults, grid_faults, Call, Lent};
 use crate::Tally;
-use reference::cases::{bad, named, Grid, Random, AI_ESCARGOT};
+use reference::cases::{bad, named, slow, Grid, Random, AI_ESCARGOT};
 use reference::grid::CELLS;
-use reference::{proved, search};
+use reference::{plain_search, proved, search};
 
 /// Turned copies of each grid.
 const TURNED: usize = 4;
@@ -19,6 +20,15 @@ const SEARCH: Call<2> = Call {
     proved: |lent, [first, second]| {
         proved::search(&lent.grid, first, second).map(|completions| (completions, 0))
     },
+};
+
+/// Beside the plain search, which `solvers` compares with public solvers.
+const PLAIN_SEARCH: Call<2> = Call {
+    name: "search beside the plain one",
+    reference: |lent, [first, second]| {
+        plain_search::search(&lent.grid, first, second).map(|completions| (completions, 0))
+    },
+    ..SEARCH
 };
 
 pub fn searches(grids: &[Grid]) -> Tally {
@@ -42,6 +52,9 @@ pub fn searches(grids: &[Grid]) -> Tally {
     }
     for grid in bad() {
         let _ = tally.call(&SEARCH, &lent(&grid));
+    }
+    for grid in slow() {
+        let _ = tally.call(&PLAIN_SEARCH, &lent(&grid));
     }
     tally
 }
