@@ -18,7 +18,7 @@
 //!
 //! Every call answers whatever it is lent, and returns. A refused call changes no buffer. Refusals are
 //! tested in the order in which a call lists them, and the first is told. An answer of no meaning,
-//! which only another library could give, panics.
+//! which only another library could give, panics. A call takes less than 1 MiB of stack.
 
 #![deny(missing_docs, unsafe_code)]
 
@@ -82,6 +82,16 @@ pub struct Finished {
     pub trials: u32,
 }
 
+impl Finished {
+    /// What each job of a batch gave back, in turn, out of the batch's answers.
+    pub fn of_batch(answers: &[u32]) -> impl Iterator<Item = Finished> + '_ {
+        answers.chunks_exact(2).map(|answer| Finished {
+            outcome: Outcome::numbered(answer[0]),
+            trials: answer[1],
+        })
+    }
+}
+
 /// What a grading gives back beside the completion.
 #[derive(Clone, Copy, Debug, PartialEq, Eq, Hash)]
 pub struct Graded {
@@ -101,8 +111,8 @@ pub struct JobFile {
 }
 
 /// The result and the count in an answer.
-fn unpacked(answer: u64) -> Result<(u8, u32), Refusal> {
-    let (number, result) = ((answer >> 56) as u8, (answer >> 48) as u8);
+fn unpacked(answer: u64) -> Result<(u32, u32), Refusal> {
+    let (number, result) = ((answer >> 56) as u32, (answer >> 48) as u32 & 0xff);
     let low = answer & 0xffff_ffff_ffff;
     if number != 0 {
         return Err(Refusal {
@@ -169,7 +179,7 @@ pub fn is_completion(grid: &[u8], candidate: &[u8]) -> bool {
 /// assert_eq!(literals, [-1, -82, 0, 0, 0, 0, 0, 0, 0]);
 /// ```
 pub fn clause(set: u32, number: u32, literals: &mut [i16]) -> Result<usize, Refusal> {
-    unpacked(raw::clause(set, number, literals)).map(|(length, _)| length.into())
+    unpacked(raw::clause(set, number, literals)).map(|(length, _)| length as usize)
 }
 
 /// A job: what one technique makes of a grid. It tries literals in the given order, and stops before a
@@ -245,17 +255,18 @@ pub fn grade(
 }
 
 /// A batch: a job for each of 1 to 64 grids that stand end to end, in turn, each with what the earlier
-/// ones left of the ceiling. Each grid has its own 729 of the marks and its own two of the answers, the
-/// outcome's number and the trials. Refusals: 47, 41, 48, 12, 21, 22, 23, 24.
+/// ones left of the ceiling. Each grid has its own 729 of the marks and its own two of the answers,
+/// which [`Finished::of_batch`] reads. Refusals: 47, 41, 48, 12, 21, 22, 23, 24.
 ///
 /// ```
-/// use grader::{batch, default_order, Technique, MARKS};
+/// use grader::{batch, default_order, Finished, Outcome, Technique, MARKS};
 ///
 /// let (mut marks, mut answers) = ([0; 2 * MARKS], [0; 2 * 2]);
 /// let technique = Technique::TrialsMinimal;
 /// batch(&[b'.'; 2 * 81], technique, &default_order(), 2000, &mut marks, &mut answers)?;
-/// // The first job is open after 1,458 trials, the second is stopped by the ceiling.
-/// assert_eq!(answers, [2, 1458, 3, 542]);
+/// let finished: Vec<Finished> = Finished::of_batch(&answers).collect();
+/// assert_eq!((finished[0].outcome, finished[0].trials), (Outcome::Open, 1458));
+/// assert_eq!((finished[1].outcome, finished[1].trials), (Outcome::Stopped, 542));
 /// # Ok::<(), grader::Refusal>(())
 /// ```
 pub fn batch(

@@ -18,7 +18,7 @@ macro_rules! numbered {
             }
 
             /// What has the number; no answer of the proved library has another.
-            pub(crate) fn numbered(number: u8) -> $name {
+            pub(crate) fn numbered(number: u32) -> $name {
                 match number {
                     $($number => $name::$variant,)*
                     _ => panic!("{number} is no {}", stringify!($name)),

@@ -93,9 +93,10 @@ impl Lent {
     /// A job file with the grid, the technique where it is there, and the order.
     fn file(&self) -> Vec<u8> {
         let order: Vec<u8> = self.order.iter().flat_map(|l| l.to_le_bytes()).collect();
-        let technique = match self.technique_there {
-            true => piece(1, 2, &[self.technique as u8]),
-            false => Vec::new(),
+        let technique = if self.technique_there {
+            piece(1, 2, &[self.technique as u8])
+        } else {
+            Vec::new()
         };
         [
             piece(81, 1, &self.grid[..81]),
