@@ -18,7 +18,7 @@
 //! - [`packed`]: the C functions' answer word;
 //! - [`plain`], [`plain_job`], [`plain_search`]: fast clause, job, search and grading calls for the
 //!   bench;
-//! - `proved` (feature `proved`): the proved library's C functions.
+//! - `proved` (feature `proved`): the proved library.
 
 pub mod batch;
 pub mod cases;

@@ -149,7 +149,7 @@ impl Tally {
         let [our_answer, their_answer] = answers.first_differing();
         self.case(
             (proved, their_mark, their_answer),
-            (reference.map(|()| 0), our_mark, our_answer),
+            (reference, our_mark, our_answer),
             || format!("batch, {lent}"),
         );
         counts

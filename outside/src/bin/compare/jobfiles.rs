@@ -49,8 +49,8 @@ impl Tally {
     fn job_file(&mut self, file: &[u8], [grid, order]: [usize; 2]) {
         let mut cells = Twice::new(grid, no_marks());
         let mut entries = Twice::new(order, (1_000..2_000).cycle());
-        let reference = read(file, cells.ours(), entries.ours())
-            .map(|job| (job.technique as u8, u64::from(job.ceiling)));
+        let reference =
+            read(file, cells.ours(), entries.ours()).map(|job| (job.technique as u8, job.ceiling));
         let proved = proved::read_job_file(file, cells.theirs(), entries.theirs());
         if reference.is_err() {
             cells.refused();
