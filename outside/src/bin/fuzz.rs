@@ -50,8 +50,8 @@ fn main() -> Result<(), String> {
 fn compared(file: &[u8]) -> Result<u8, String> {
     let [mut our_grid, mut their_grid] = [[7; CELLS]; 2];
     let [mut our_order, mut their_order] = [[7; ENTRIES]; 2];
-    let ours = read(file, &mut our_grid, &mut our_order)
-        .map(|job| (job.technique as u8, u64::from(job.ceiling)));
+    let ours =
+        read(file, &mut our_grid, &mut our_order).map(|job| (job.technique as u8, job.ceiling));
     let theirs = read_job_file(file, &mut their_grid, &mut their_order);
     if ours == theirs && our_grid == their_grid && our_order == their_order {
         Ok(ours.map_or_else(|refusal| refusal.number, |(technique, _)| technique))
