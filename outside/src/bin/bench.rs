@@ -2,18 +2,22 @@
 //! of each with their ratio: the clause call over all numbers of both sets; jobs of each technique,
 //! searches and gradings on sets of grids; and the search that takes longest of those on grids that
 //! cost much. It checks first that both give equal answers; no figure makes it fail. Where qqwing is
-//! installed, the proved search stands beside it too.
+//! installed, the proved search stands beside it too. Last, the program that the environment names as
+//! GRADELIST grades files of lines, beside the reference's listing.
 
 use reference::cases::{bad, slow, Grid, Random, AI_ESCARGOT, FIGURE_FIVE};
 use reference::clauses::clause_set;
 use reference::grid::{CELLS, VARIABLES};
+use reference::listing::gradelist;
 use reference::order::default_order;
 use reference::refusal::Refusal;
 use reference::{plain, plain_job, plain_search, proved};
 use std::fs::File;
 use std::hint::black_box;
+use std::path::Path;
 use std::process::{self, Command, Stdio};
-use std::time::Instant;
+use std::thread::sleep;
+use std::time::{Duration, Instant};
 use std::{env, fs, io};
 
 const ROUNDS: usize = 200;
@@ -61,7 +65,8 @@ fn main() -> Result<(), String> {
     let timed = bad.iter().map(|grid| (search_time(&[*grid], 1), grid));
     let slowest = timed.max_by(|(one, _), (other, _)| one.total_cmp(other));
     let (_, slowest) = slowest.ok_or("the collection is empty")?;
-    searches(&format!("slowest of {} bad grids", bad.len()), &[*slowest])
+    searches(&format!("slowest of {} bad grids", bad.len()), &[*slowest])?;
+    listings(&published).map_err(|error| format!("gradelist: {error}"))
 }
 
 /// The median of each side's times.
@@ -313,4 +318,60 @@ fn qqwing_time(grids: &[Grid], rounds: usize) -> io::Result<f64> {
     let time = start.elapsed().as_nanos() as f64;
     fs::remove_file(&path)?;
     Ok(time / (rounds * grids.len()) as f64)
+}
+
+/// Lines of which the reference makes a listing too.
+const LINES: usize = 100;
+
+/// The program on ever longer files, with the most memory that it holds, and on the shortest beside
+/// the reference's listing.
+fn listings(grids: &[Grid]) -> io::Result<()> {
+    let Ok(program) = env::var("GRADELIST") else {
+        println!("bench: gradelist: the environment names no program");
+        return Ok(());
+    };
+    let path = env::temp_dir().join(format!("reference-bench-{}", process::id()));
+    let lines = |count: usize| -> Vec<u8> {
+        let grids = grids.iter().cycle().take(count);
+        grids.flat_map(|grid| [grid, &b"\n"[..]].concat()).collect()
+    };
+    for count in [LINES, 10 * LINES, 100 * LINES] {
+        fs::write(&path, lines(count))?;
+        let (seconds, memory) = program_time(&program, &path)?;
+        print!(
+            "bench: gradelist, published, {count} lines: {:.1} a second, {memory} kB at most",
+            count as f64 / seconds
+        );
+        if count == LINES {
+            let start = Instant::now();
+            black_box(gradelist(&lines(count)));
+            let reference = start.elapsed().as_secs_f64();
+            print!(
+                "; reference {:.1} a second, ratio of the times {:.4}",
+                count as f64 / reference,
+                seconds / reference
+            );
+        }
+        println!();
+    }
+    fs::remove_file(&path)
+}
+
+/// The seconds of a run, and the most memory that was seen in it, in kB.
+fn program_time(program: &str, path: &Path) -> io::Result<(f64, usize)> {
+    let start = Instant::now();
+    let mut child = Command::new(program)
+        .stdin(File::open(path)?)
+        .stdout(Stdio::null())
+        .spawn()?;
+    let status = format!("/proc/{}/status", child.id());
+    let mut memory = 0;
+    while child.try_wait()?.is_none() {
+        let text = fs::read_to_string(&status).unwrap_or_default();
+        let peak = text.lines().find_map(|line| line.strip_prefix("VmHWM:"));
+        let peak = peak.and_then(|line| line.split_whitespace().next()?.parse().ok());
+        memory = memory.max(peak.unwrap_or(0));
+        sleep(Duration::from_millis(1));
+    }
+    Ok((start.elapsed().as_secs_f64(), memory))
 }
