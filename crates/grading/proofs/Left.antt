@@ -105,14 +105,6 @@ with-fits m l b = (
   λ w. record { legal = w .0 .legal; keeps = λ x y. ⊎-elim (w .0 .keeps x) (λ e. subst (λ k. T (holds (truthOf b) k)) (sym e) (w .1)) y },
 )
 
--- from marks that are settled
-module _ (m : List ℕ) (i : IsMarks m) where
-  pub clash-left : Contradiction (Least (Rules cs true) (Of m)) → left m ≡ []
-  clash-left k = in-order-same (Fits (Of m)) (Fits (Of m)) (left m) [] (left-in-order m i) (in-order-none (Fits (Of m)) (clash-fits (Of m) k)) (λ b. ((λ f. f), λ f. f))
-
-  pub settled-left : (t : List ℕ) → Settles (Of m) t → left m ≡ left t
-  settled-left t s = in-order-same (Fits (Of m)) (Fits (Of t)) (left m) (left t) (left-in-order m i) (left-in-order t (s .marks .marks)) (settled-fits (Of m) t s)
-
 -- from a grid's givens
 module _ (g : List ℕ) where
   -- the givens as literals

@@ -45,7 +45,7 @@ module _ (m : List ℕ) (p : ℕ) where
 
 module _ (m : List ℕ) (i : IsMarks m) where
   -- marks that no grid fits leave nothing
-  pub unfit-left : ((b : List ℕ) → Fits (Of m) b → ⊥) → left m ≡ []
+  unfit-left : ((b : List ℕ) → Fits (Of m) b → ⊥) → left m ≡ []
   unfit-left n = in-order-same (Fits (Of m)) (Fits (Of m)) (left m) [] (left-in-order m i) (in-order-none (Fits (Of m)) n) (λ b. ((λ f. f), λ f. f))
 
   -- a place that is refuted becomes false
