@@ -92,7 +92,7 @@ module _ (A : Truth) (p : Proper A) where
       table-at 0 81 _ c c h (omega arith) ∙ ap (λ x. 49 + x) e
 
   -- and no other,
-  pub says-at : (c d : ℕ) → c < 81 → d < 9 → eqb (byte (completionOf A) c) (49 + d) ≡ A (suc (9 * c + d))
+  says-at : (c d : ℕ) → c < 81 → d < 9 → eqb (byte (completionOf A) c) (49 + d) ≡ A (suc (9 * c + d))
   says-at c d h k = go (A (suc (9 * c + d))) refl
     where
       go : (x : Bool) → A (suc (9 * c + d)) ≡ x → eqb (byte (completionOf A) c) (49 + d) ≡ x

@@ -85,11 +85,11 @@ all-right : T (every right 0 extended)
 unfolding extended minimal F1 F2 F3 F4 F5 F6 F7 F8 F9 clauseOf shapeOf placeOf cellOf
 all-right = tt
 
-pub extended-long : length extended ≡ 11988
+extended-long : length extended ≡ 11988
 unfolding extended minimal F1 F2 F3 F4 F5 F6 F7 F8 F9
 extended-long = refl
 
-pub minimal-long : length minimal ≡ 8829
+minimal-long : length minimal ≡ 8829
 unfolding minimal F1 F2 F3 F4 F5
 minimal-long = refl
 
@@ -116,7 +116,7 @@ sizes Minimal = omega arith
 sizes Extended = omega arith
 
 -- set 1 is where set 2 begins
-pub in-extended : (n : ℕ) → n < 8829 → getD minimal n [] ≡ getD extended n []
+in-extended : (n : ℕ) → n < 8829 → getD minimal n [] ≡ getD extended n []
 unfolding extended
 in-extended n h = sym (List·getD-append minimal (F6 ++ F7 ++ F8 ++ F9) [] n (omega (arith, minimal-long)))
 

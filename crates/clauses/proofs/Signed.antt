@@ -40,7 +40,7 @@ module _ (k : ℕ) (h : k < 729) where
       below zero = refl
       below (suc k) = ap negsuc (omega arith)
 
-  pub positive-fits : SFits w16 (pos (suc k))
+  positive-fits : SFits w16 (pos (suc k))
   positive-fits = record { sfits = omega arith }
 
   pub negative-fits : SFits w16 (negsuc k)

@@ -135,7 +135,7 @@ fn boxed(q: usize) -> Group
 }
 
 // The shape of clause n.
-pub fn shape(n: usize) -> Shape
+pub(crate) fn shape(n: usize) -> Shape
     ensures { λ r. ⌜ r ≡ shapeOf n ⌝ }
 {
     if n < 81 {
@@ -160,7 +160,7 @@ pub fn shape(n: usize) -> Shape
 }
 
 // How many literals a clause has.
-pub fn length_of(shape: Shape) -> usize
+pub(crate) fn length_of(shape: Shape) -> usize
     ensures { λ r. ⌜ r ≡ length (clauseOf shape) ⌝ }
 {
     match shape {
@@ -196,7 +196,7 @@ fn fill_pair(first: usize, second: usize, out: &mut [i16])
 }
 
 // The literals of a clause, then zeros.
-pub fn fill(shape: Shape, out: &mut [i16])
+pub(crate) fn fill(shape: Shape, out: &mut [i16])
     requires { ⌜ IsShape shape × (length (now out) ≡ 9) ⌝ }
     ensures { λ _. ⌜ now (out .exit) ≡ padded (clauseOf shape) ⌝ }
 {

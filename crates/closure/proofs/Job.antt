@@ -92,7 +92,7 @@ module _ (cs : List Clause) (wf : WellFormed cs) (G : ℤ → Type 0) where
       decided-grows m t (λ x g. q .holds x (inl g)) (negℤ l) (negation-literal l v .0) (q .holds (negℤ l) (inr refl)) new,
     )
 
-    pub step-ok : (ceiling n : ℕ) → StepOk cs G m l (step cs ceiling m n l)
+    step-ok : (ceiling n : ℕ) → StepOk cs G m l (step cs ceiling m n l)
     unfolding step
     step-ok ceiling n = go (isDecided m l) refl (eqb n ceiling)
       where

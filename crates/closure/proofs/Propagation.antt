@@ -211,7 +211,7 @@ join-from G (l ∷ ls) lits m i e =
     go false q r = r (λ t. rw q at t)
 
 -- some literals join: a clash only where they have both signs of a variable, else a state with just these
-pub join-ok : (ls : List ℤ) → ((l : ℤ) → List·Memᴰ l ls → Literal l) → Joins (λ l. List·Memᴰ l ls) (join blank ls)
+join-ok : (ls : List ℤ) → ((l : ℤ) → List·Memᴰ l ls → Literal l) → Joins (λ l. List·Memᴰ l ls) (join blank ls)
 join-ok ls lits = join-from (λ l. List·Memᴰ l ls) ls lits blank is-marks-blank (λ l. (inr, ⊎-elim (λ t. absurd (has-blank l t)) (λ i. i)))
 
 -- an answer for G is one for the same set

@@ -8,13 +8,13 @@ use native.Mathlib.Omega.{arith}
 use lib.Dec.{eqb}
 use lib.IntN.{ℤ}
 use lib.ListN.{length}
-use Rattle.grid.specs.Refusals.{refusal, gridCheck}
+use Rattle.grid.specs.Refusals.{refusal, onAccepted, gridCheck}
 use Rattle.grid.specs.declared.Refusal.{Refusal}
 use Rattle.grid.specs.declared.Checked.{Checked}
 use Rattle.grid.specs.declared.Checked.the-variants as check
 use Rattle.inference.specs.Order.{orderCheck}
 use Rattle.grading.specs.Completions.{completions}
-use Rattle.grading.specs.Grade.{stages, rateFrom, Given, gradeBy, gradeOf, onAccepted, gradeCall}
+use Rattle.grading.specs.Grade.{stages, rateFrom, Given, gradeBy, gradeOf, refused, gradeCall}
 use Rattle.demands.specs.Gradings.{Grading, IsGrading}
 use Rattle.grading.specs.declared.grade.Rating.{Rating}
 use Rattle.grading.specs.declared.grade.GradeAnswer.the-variants.{Graded, Refused}
@@ -31,7 +31,7 @@ graded-by (a ∷ b ∷ bs) k e = refused-graded (sym e)
 module _ (g : List ℕ) (o : List ℤ) (c : ℕ) (b : List ℕ) where
   -- the call, once its tests are known
   abbrev tested : Bool → Checked → Checked → Given
-  tested long x z = cond long (onAccepted x b λ u. onAccepted z b λ w. gradeOf g o c) (Refused (refusal 42 0), b)
+  tested long x z = cond long (onAccepted x (refused b) λ u. onAccepted z (refused b) λ w. gradeOf g o c) (refused b (refusal 42 0))
 
   -- a call that gives a verdict is a grading
   pub call-graded : (v t : ℕ) (a : List ℕ) → gradeCall g o c b ≡ (Graded v t, a) → (r : Grading) × IsGrading r g o c v t a

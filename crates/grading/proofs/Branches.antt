@@ -1,9 +1,8 @@
 -- The branches of a node. The grids that the marks leave agree on the cells before the first open one, so that those with a smaller digit
 -- in it come first: they are what the branches leave, one after the other.
 -- Assumes nothing.
-use mathlib.Core.Path.{_≡_, refl, sym, subst, _∙_}
+use mathlib.Core.Path.{_≡_, sym, _∙_}
 use mathlib.Core.Logic.{_⊎_, inl, inr, ⊎-elim, _↔_}
-use mathlib.Core.Bool.{true}
 use mathlib.Core.List.{List, [], _++_}
 use Prim.Native.Nat.{ℕ, suc, _+_, _*_, _≤_, _<_}
 use native.Mathlib.Decide.{decLt}
@@ -13,11 +12,10 @@ use lib.IntN.{ℤ, pos}
 use Rattle.grid.specs.Grid.{byte}
 use Rattle.grid.proofs.Completion.{digit-iff, eq-iff}
 use Rattle.clauses.specs.Clauses.{clausesOf}
-use Rattle.clauses.specs.Models.{holds, truthOf}
 use Rattle.clauses.specs.declared.ClauseSet.the-variants.{Extended}
 use Rattle.clauses.proofs.ModelsAreCompletions.{truth-at}
 use Rattle.closure.specs.Sets.{Least}
-use Rattle.closure.specs.Closure.{Contradiction, With, Rules}
+use Rattle.closure.specs.Closure.{Contradiction, With, UnitClosed}
 use Rattle.closure.specs.Marks.{has, IsMarks}
 use Rattle.grading.specs.Completions.{those, Before, InOrder}
 use Rattle.grading.specs.Search.{isIn, left, Settles}
@@ -93,7 +91,7 @@ module _ (m : List ℕ) (i : IsMarks m) (c : ℕ) (h : c < 81) where
             λ v. w .1 (v .0, rw (truth-at b c d u) (e .1 (v .1))),
           )
 
-      pub branch-none : Contradiction (Least (Rules (clausesOf Extended) true) Digit) → below m c (d + 1) ≡ below m c d
+      pub branch-none : Contradiction (Least (UnitClosed (clausesOf Extended)) Digit) → below m c (d + 1) ≡ below m c d
       branch-none k =
           in-order-same (Below (d + 1)) (Below d) (below m c (d + 1)) (below m c d) (below-in-order (d + 1)) (below-in-order d)
           (λ b. (

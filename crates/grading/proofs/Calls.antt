@@ -5,11 +5,11 @@ use mathlib.Core.List.{List}
 use Prim.Native.Nat.{ℕ}
 use borrow.Author.Tests.{eq-eqb, ne-eqb}
 use lib.ListN.{length}
-use Rattle.grid.specs.Refusals.{refusal, gridCheck}
+use Rattle.grid.specs.Refusals.{refusal, onAccepted, gridCheck}
 use Rattle.grid.specs.declared.Checked.{Checked}
 use Rattle.grading.specs.Completions.{completions}
 use Rattle.grading.specs.Search.{foundOf}
-use Rattle.grading.specs.Call.{Given, counted, onAccepted, searchCall}
+use Rattle.grading.specs.Call.{Given, counted, refused, searchCall}
 use Rattle.grading.specs.declared.search.Found.{Found}
 use Rattle.grading.specs.declared.search.SearchAnswer.{SearchAnswer}
 use Rattle.grading.specs.declared.search.SearchAnswer.the-variants.{Counted, Refused}
@@ -25,9 +25,9 @@ module _ (g a b : List ℕ) where
   unfolding searchCall
   second-short r e l n = rw (eq-eqb (length a) 81 l, ne-eqb (length b) 81 n) (ap {B = Given} (λ x. (x, a, b)) e)
 
-  pub checked : (k : Checked) → k ≡ gridCheck g → length a ≡ 81 → length b ≡ 81 → onAccepted k a b (λ u. counted (foundOf (completions g))) ≡ searchCall g a b
+  pub checked : (k : Checked) → k ≡ gridCheck g → length a ≡ 81 → length b ≡ 81 → onAccepted k (refused a b) (λ u. counted (foundOf (completions g))) ≡ searchCall g a b
   unfolding searchCall
-  checked k e l m = rw (eq-eqb (length a) 81 l, eq-eqb (length b) 81 m) (ap (λ x. onAccepted x a b (λ u. counted (foundOf (completions g)))) e)
+  checked k e l m = rw (eq-eqb (length a) 81 l, eq-eqb (length b) 81 m) (ap (λ x. onAccepted x (refused a b) (λ u. counted (foundOf (completions g)))) e)
 
 -- what was found is 81 bytes each
 pub found-bytes : (f : Found) (g : List ℕ) → f ≡ foundOf (completions g) → (length (f .first) ≡ 81) × (length (f .second) ≡ 81)

@@ -7,18 +7,17 @@ use Prim.Native.Nat.{ℕ}
 use borrow.Author.Tests.{eq-eqb, ne-eqb}
 use lib.IntN.{ℤ}
 use lib.ListN.{length}
-use Rattle.grid.specs.Refusals.{refusal, gridCheck}
+use Rattle.grid.specs.Refusals.{refusal, onAccepted, gridCheck}
 use Rattle.grid.specs.declared.Checked.{Checked}
 use Rattle.inference.specs.Order.{orderCheck}
-use Rattle.grading.specs.Grade.{Given, gradeOf, onAccepted, gradeCall}
-use Rattle.grading.specs.declared.grade.GradeAnswer.the-variants.{Refused}
+use Rattle.grading.specs.Grade.{Given, gradeOf, refused, gradeCall}
 
 module _ (g : List ℕ) (o : List ℤ) (c : ℕ) (b : List ℕ) where
   -- the call, once its tests are known
   abbrev tested : Bool → Checked → Checked → Given
-  tested long x z = cond long (onAccepted x b λ u. onAccepted z b λ w. gradeOf g o c) (Refused (refusal 42 0), b)
+  tested long x z = cond long (onAccepted x (refused b) λ u. onAccepted z (refused b) λ w. gradeOf g o c) (refused b (refusal 42 0))
 
-  pub call-short : (length b ≡ 81 → ⊥) → _≡_ {A = Given} (Refused (refusal 42 0), b) (gradeCall g o c b)
+  pub call-short : (length b ≡ 81 → ⊥) → refused b (refusal 42 0) ≡ gradeCall g o c b
   unfolding gradeCall
   call-short n = rw (ne-eqb (length b) 81 n) refl
 

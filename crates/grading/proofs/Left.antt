@@ -1,4 +1,4 @@
--- What marks leave, and that no closing loses any of it: what the unit rule and trials find is true in every model. Where no cell is open,
+-- What marks leave, and that no closing loses any of it: what the unit rule finds is true in every model. Where no cell is open,
 -- the marks say the one full grid that they leave; else its completions are those with each digit of the first open cell, one digit after the other.
 -- Assumes nothing.
 use mathlib.Core.Path.{_≡_, refl, sym, subst, _∙_}
@@ -28,7 +28,7 @@ use Rattle.clauses.proofs.Members.{member-iff, givens-iff, givens-true-iff}
 use Rattle.clauses.proofs.Proper.{Proper, trueIn, one-of-iff, not-both-iff, satisfying-proper}
 use Rattle.clauses.proofs.ModelsAreCompletions.{truth-at, proper-truth, proper-legal, models-are-completions}
 use Rattle.closure.specs.Sets.{Holds, Least}
-use Rattle.closure.specs.Closure.{Contradiction, With, UnitClosed, Rules}
+use Rattle.closure.specs.Closure.{Contradiction, With, UnitClosed}
 use Rattle.closure.specs.Marks.{has, IsMarks}
 use Rattle.closure.proofs.Closure.{model-rules, model-consistent}
 use Rattle.closure.proofs.Marks.{has-single, has-literal}
@@ -88,13 +88,13 @@ module _ (G : ℤ → Type 0) where
   model b f = models-are-completions Extended [] .models b (f .legal) .clauses
 
   -- so that no grid fits a contradiction,
-  pub clash-fits : Contradiction (Least (Rules cs true) G) → (b : List ℕ) → Fits G b → ⊥
-  clash-fits k b f = model-consistent (truthOf b) cs (model b f) true G (f .keeps) k
+  pub clash-fits : Contradiction (Least (UnitClosed cs) G) → (b : List ℕ) → Fits G b → ⊥
+  clash-fits k b f = model-consistent (truthOf b) cs (model b f) false G (f .keeps) k
 
   -- and what is settled from G fits the same grids
   pub settled-fits : (m : List ℕ) → Settles G m → (b : List ℕ) → Fits G b ↔ Fits (Of m) b
   settled-fits m s b = (
-    (λ f. record { legal = f .legal; keeps = λ l y. s .within l y (holds (truthOf b)) (model-rules (truthOf b) cs (model b f) true) (f .keeps) }),
+    (λ f. record { legal = f .legal; keeps = λ l y. s .within l y (holds (truthOf b)) (model-rules (truthOf b) cs (model b f) false) (f .keeps) }),
     λ f. record { legal = f .legal; keeps = λ l g. f .keeps l (s .holds l g) },
   )
 
@@ -104,14 +104,6 @@ with-fits m l b = (
   (λ f. (record { legal = f .legal; keeps = λ x y. f .keeps x (inl y) }, f .keeps l (inr refl))),
   λ w. record { legal = w .0 .legal; keeps = λ x y. ⊎-elim (w .0 .keeps x) (λ e. subst (λ k. T (holds (truthOf b) k)) (sym e) (w .1)) y },
 )
-
--- from marks that are settled
-module _ (m : List ℕ) (i : IsMarks m) where
-  pub clash-left : Contradiction (Least (Rules cs true) (Of m)) → left m ≡ []
-  clash-left k = in-order-same (Fits (Of m)) (Fits (Of m)) (left m) [] (left-in-order m i) (in-order-none (Fits (Of m)) (clash-fits (Of m) k)) (λ b. ((λ f. f), λ f. f))
-
-  pub settled-left : (t : List ℕ) → Settles (Of m) t → left m ≡ left t
-  settled-left t s = in-order-same (Fits (Of m)) (Fits (Of t)) (left m) (left t) (left-in-order m i) (left-in-order t (s .marks .marks)) (settled-fits (Of m) t s)
 
 -- from a grid's givens
 module _ (g : List ℕ) where
@@ -136,7 +128,7 @@ module _ (g : List ℕ) where
     },
   )
 
-  pub start-none : Contradiction (Least (Rules cs true) Given) → completions g ≡ []
+  pub start-none : Contradiction (Least (UnitClosed cs) Given) → completions g ≡ []
   start-none k = in-order-same (Legal g) (Fits Given) (completions g) [] (completions-in-order g) (in-order-none (Fits Given) (clash-fits Given k)) given-fits
 
   pub start-left : (m : List ℕ) → Settles Given m → completions g ≡ left m

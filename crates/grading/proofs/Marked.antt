@@ -47,7 +47,7 @@ module _ (m : List ℕ) where
   unfolding isOpen
   closed-some c e = some-pass 9 (isIn m c) e
 
--- more marks have no more open cells, and fewer where an open cell gets a digit
+-- more marks have fewer open cells where an open cell gets a digit
 module _ (m t : List ℕ) (more : (c d : ℕ) → T (isIn m c d) → T (isIn t c d)) where
   open-still : (c : ℕ) → T (isOpen t c) → T (isOpen m c)
   unfolding isOpen
@@ -55,10 +55,6 @@ module _ (m t : List ℕ) (more : (c d : ℕ) → T (isIn m c d) → T (isIn t c
 
   compared : (tally 81 (isOpen t) ≤ tally 81 (isOpen m)) × (tally 81 (isOpen m) ≤ tally 81 (isOpen t) → (c : ℕ) → c < 81 → T (isOpen m c) → T (isOpen t c))
   compared = tally-compare 81 (isOpen t) (isOpen m) (λ c h. open-still c)
-
-  pub open-no-more : openCells t ≤ openCells m
-  unfolding openCells
-  open-no-more = compared .0
 
   pub open-fewer : (c d : ℕ) → c < 81 → d < 9 → T (isOpen m c) → T (isIn t c d) → openCells t < openCells m
   unfolding openCells

@@ -19,7 +19,7 @@ use Rattle.clauses.specs.declared.Shape.the-variants.{OneOf}
 use Rattle.clauses.proofs.Members.{member-iff}
 use Rattle.clauses.proofs.Proper.{trueIn, one-of-iff}
 use Rattle.closure.specs.Sets.{Least}
-use Rattle.closure.specs.Closure.{Contradiction, With, Rules}
+use Rattle.closure.specs.Closure.{Contradiction, With, UnitClosed}
 use Rattle.closure.specs.Marks.{has, IsMarks}
 use Rattle.closure.proofs.Marks.{decided-rises}
 use Rattle.inference.specs.Steps.{MarksOk}
@@ -35,7 +35,7 @@ Refuted m p = (b : List ℕ) → Fits (Of m) b → T (truthOf b (suc p)) → ⊥
 
 module _ (m : List ℕ) (p : ℕ) where
   -- a place is refuted where it makes a contradiction, or where the closure with it leaves nothing
-  pub clash-refutes : Contradiction (Least (Rules (clausesOf Extended) true) (With (has m) (pos (suc p)))) → Refuted m p
+  pub clash-refutes : Contradiction (Least (UnitClosed (clausesOf Extended)) (With (has m) (pos (suc p)))) → Refuted m p
   clash-refutes k b f y = clash-fits (With (has m) (pos (suc p))) k b (with-fits m (pos (suc p)) b .1 (f, y))
 
   pub none-refutes : (t : List ℕ) → Settles (With (has m) (pos (suc p))) t → left t ≡ [] → Refuted m p
@@ -45,7 +45,7 @@ module _ (m : List ℕ) (p : ℕ) where
 
 module _ (m : List ℕ) (i : IsMarks m) where
   -- marks that no grid fits leave nothing
-  pub unfit-left : ((b : List ℕ) → Fits (Of m) b → ⊥) → left m ≡ []
+  unfit-left : ((b : List ℕ) → Fits (Of m) b → ⊥) → left m ≡ []
   unfit-left n = in-order-same (Fits (Of m)) (Fits (Of m)) (left m) [] (left-in-order m i) (in-order-none (Fits (Of m)) n) (λ b. ((λ f. f), λ f. f))
 
   -- a place that is refuted becomes false

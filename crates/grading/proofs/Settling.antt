@@ -2,9 +2,8 @@
 -- Assumes nothing.
 use mathlib.Core.Path.{_≡_, refl, subst}
 use mathlib.Core.Logic.{inl, inr}
-use mathlib.Core.Bool.{true}
 use mathlib.Core.List.{List, List·Memᴰ}
-use Prim.Native.Nat.{ℕ, suc, _+_, _<_}
+use Prim.Native.Nat.{ℕ, suc, _+_}
 use lib.Dec.{T}
 use lib.IntN.{ℤ, pos, negsuc, negℤ}
 use lib.ListN.{getD}
@@ -15,11 +14,10 @@ use Rattle.clauses.specs.Models.{givens}
 use Rattle.clauses.specs.declared.ClauseSet.the-variants.{Extended}
 use Rattle.clauses.proofs.Members.{given-literal}
 use Rattle.closure.specs.Sets.{Least}
-use Rattle.closure.specs.Closure.{Contradiction, With, UnitClosed, Rules}
+use Rattle.closure.specs.Closure.{Contradiction, With, UnitClosed}
 use Rattle.closure.specs.Marks.{has, mark, decided, blank}
 use Rattle.closure.specs.Propagation.{Closes, bind, join, unitClosure}
-use Rattle.closure.proofs.Sets.{least-given, least-mono}
-use Rattle.closure.proofs.Closure.{contradiction-mono}
+use Rattle.closure.proofs.Sets.{least-given}
 use Rattle.closure.proofs.ClauseSets.{well-formed}
 use Rattle.closure.proofs.Propagation.{givens-closed}
 use Rattle.closure.proofs.Job.{closes-with}
@@ -34,15 +32,15 @@ cs = clausesOf Extended
 
 -- the unit closure of G, as it was computed from marks m
 module _ (G : ℤ → Type 0) (m m' : List ℕ) where
-  pub clash-settles : (r : Reached) → r ≡ Clash → Closes (UnitClosed cs) G (answerOf r m') → Contradiction (Least (Rules cs true) G)
-  clash-settles r e k = contradiction-mono (least-mono (λ S u. u .0) (λ l p. p)) (subst (λ x. Closes (UnitClosed cs) G (answerOf x m')) e k)
+  pub clash-settles : (r : Reached) → r ≡ Clash → Closes (UnitClosed cs) G (answerOf r m') → Contradiction (Least (UnitClosed cs) G)
+  clash-settles r e k = subst (λ x. Closes (UnitClosed cs) G (answerOf x m')) e k
 
   pub closure-settles : (r : Reached) (t : ℕ) → r ≡ Tail t → Closes (UnitClosed cs) G (answerOf r m') → ClosedOk Extended m m' r
       → Settles G m' × (decided m' ≡ decided m + t)
   closure-settles r t e k o =
       let i = subst (λ x. Closes (UnitClosed cs) G (answerOf x m')) e k in
       let c : ClosedOk Extended m m' (Tail t) = subst (ClosedOk Extended m m') e o in
-      (record { marks = c .0; holds = i .holds; within = λ l p. least-mono (λ S u. u .0) (λ x q. q) l (i .within l p) }, c .1)
+      (record { marks = c .0; holds = i .holds; within = i .within }, c .1)
 
 -- the unit closure of a grid's givens,
 pub givens-close : (g m : List ℕ) (r : Reached) → answerOf r m ≡ bind (join blank (givens g)) (unitClosure cs)
@@ -54,7 +52,12 @@ pub literal-closes : (m m' : List ℕ) (l : ℤ) (r : Reached) → Literal l →
     → Closes (UnitClosed cs) (With (has m) l) (answerOf r m')
 literal-closes m m' l r h n e = rw e (closes-with cs (well-formed Extended) (λ l. T (has m l)) m l h n)
 
--- a false place is none to be made true
-pub false-clashes : (m : List ℕ) (p : ℕ) → getD m p 0 ≡ 2 → Contradiction (Least (Rules cs true) (With (has m) (pos (suc p))))
+-- a false place is none to be made true,
+pub false-clashes : (m : List ℕ) (p : ℕ) → getD m p 0 ≡ 2 → Contradiction (Least (UnitClosed cs) (With (has m) (pos (suc p))))
 unfolding has
-false-clashes m p e = (p, least-given (Rules cs true) (pos (suc p)) (inr refl), least-given (Rules cs true) (negsuc p) (inl (eq-iff (getD m p 0) 2 .1 e)))
+false-clashes m p e = (p, least-given (UnitClosed cs) (pos (suc p)) (inr refl), least-given (UnitClosed cs) (negsuc p) (inl (eq-iff (getD m p 0) 2 .1 e)))
+
+-- and a place that is not marked true is not true
+pub not-marked : (m : List ℕ) (p : ℕ) → (getD m p 0 ≡ 1 → ⊥) → T (has m (pos (suc p))) → ⊥
+unfolding has
+not-marked m p n t = n (eq-iff (getD m p 0) 1 .0 t)

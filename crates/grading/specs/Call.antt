@@ -4,9 +4,8 @@ use mathlib.Core.List.{List}
 use Prim.Native.Nat.{ℕ}
 use lib.Dec.{eqb}
 use lib.ListN.{length}
-use Rattle.grid.specs.Refusals.{refusal, gridCheck}
-use Rattle.grid.specs.declared.Checked.{Checked}
-use Rattle.grid.specs.declared.Checked.the-variants as check
+use Rattle.grid.specs.Refusals.{refusal, onAccepted, gridCheck}
+use Rattle.grid.specs.declared.Refusal.{Refusal}
 use Rattle.grading.specs.Completions.{completions}
 use Rattle.grading.specs.Search.{foundOf}
 use Rattle.grading.specs.declared.search.Found.{Found}
@@ -21,12 +20,13 @@ Given = SearchAnswer × List ℕ × List ℕ
 abbrev pub counted : Found → Given
 counted f = (Counted (f .count), f .first, f .second)
 
--- on where a check accepts; a refusal changes nothing
-abbrev pub onAccepted : Checked → List ℕ → List ℕ → (Unit {0} → Given) → Given
-onAccepted check.Accepted a b k = k tt
-onAccepted (check.Refused r) a b k = (Refused r, a, b)
+-- a refusal changes nothing
+abbrev pub refused : List ℕ → List ℕ → Refusal → Given
+refused a b r = (Refused r, a, b)
 
 -- 42: a buffer that is not 81 long; then the keyer's check
 unfoldable pub searchCall : List ℕ → List ℕ → List ℕ → Given
 searchCall g a b =
-    cond (eqb (length a) 81 && eqb (length b) 81) (onAccepted (gridCheck g) a b λ u. counted (foundOf (completions g))) (Refused (refusal 42 0), a, b)
+    cond (eqb (length a) 81 && eqb (length b) 81)
+    (onAccepted (gridCheck g) (refused a b) λ u. counted (foundOf (completions g)))
+    (refused a b (refusal 42 0))

@@ -5,9 +5,8 @@ use Prim.Native.Nat.{ℕ, _+_, _-_}
 use lib.Dec.{eqb}
 use lib.IntN.{ℤ}
 use lib.ListN.{length}
-use Rattle.grid.specs.Refusals.{refusal, gridCheck}
-use Rattle.grid.specs.declared.Checked.{Checked}
-use Rattle.grid.specs.declared.Checked.the-variants as check
+use Rattle.grid.specs.Refusals.{refusal, onAccepted, gridCheck}
+use Rattle.grid.specs.declared.Refusal.{Refusal}
 use Rattle.clauses.specs.Clauses.{clausesOf}
 use Rattle.clauses.specs.Models.{givens}
 use Rattle.closure.specs.Job.{End, solved, opened, stopped, contradiction, jobEnd}
@@ -57,12 +56,13 @@ gradeBy (a ∷ b ∷ bs) k = (Graded 7 0, zeros)
 unfoldable pub gradeOf : List ℕ → List ℤ → ℕ → Given
 gradeOf g o ceiling = gradeBy (completions g) λ u. rateFrom g o ceiling stages 0
 
--- on where a check accepts; a refusal changes nothing
-abbrev pub onAccepted : Checked → List ℕ → (Unit {0} → Given) → Given
-onAccepted check.Accepted b k = k tt
-onAccepted (check.Refused r) b k = (Refused r, b)
+-- a refusal changes nothing
+abbrev pub refused : List ℕ → Refusal → Given
+refused b r = (Refused r, b)
 
 -- 42: a buffer that is not 81 long; then the keyer's check, and the operator's check of the order
 unfoldable pub gradeCall : List ℕ → List ℤ → ℕ → List ℕ → Given
 gradeCall g o ceiling b =
-    cond (eqb (length b) 81) (onAccepted (gridCheck g) b λ u. onAccepted (orderCheck o) b λ v. gradeOf g o ceiling) (Refused (refusal 42 0), b)
+    cond (eqb (length b) 81)
+    (onAccepted (gridCheck g) (refused b) λ u. onAccepted (orderCheck o) (refused b) λ v. gradeOf g o ceiling)
+    (refused b (refusal 42 0))

@@ -1,6 +1,6 @@
 -- The search: what it finds, and what its marks say on the way.
 use mathlib.Core.Path.{_≡_}
-use mathlib.Core.Bool.{Bool, true, cond, not}
+use mathlib.Core.Bool.{Bool, cond, not}
 use mathlib.Core.List.{List, []}
 use Prim.Native.Nat.{ℕ, suc, _+_, _*_, _≤_, min}
 use lib.Dec.{eqb}
@@ -11,7 +11,7 @@ use Rattle.clauses.specs.Clauses.{clausesOf}
 use Rattle.clauses.specs.Models.{truthOf, pick, completionOf}
 use Rattle.clauses.specs.declared.ClauseSet.the-variants.{Extended}
 use Rattle.closure.specs.Sets.{Holds, Within, Least}
-use Rattle.closure.specs.Closure.{Contradiction, Rules}
+use Rattle.closure.specs.Closure.{Contradiction, UnitClosed}
 use Rattle.closure.specs.Marks.{has, decided}
 use Rattle.inference.specs.Order.{leastFrom}
 use Rattle.inference.specs.Steps.{MarksOk}
@@ -60,16 +60,15 @@ agrees m b = all 729 (λ k. cond (truthOf b (suc k)) (not (eqb (getD m k 0) 2)) 
 unfoldable pub left : List ℕ → List (List ℕ)
 left m = those (agrees m) (completions [])
 
--- What closing the literals G may leave: marks that have G, that the unit rule closes, and that have nothing but what the unit rule and
--- trials find. Unit closure, trial closure and any walk of trials from a unit closure do so.
+-- What closing the literals G leaves: marks that have G, that the unit rule closes, and that have nothing but what the unit rule finds.
 pub record Settles (G : ℤ → Type 0) (m : List ℕ) : Type 0 where
   pub marks : MarksOk Extended m
   pub holds : Holds G (has m)
-  pub within : Within (has m) (Least (Rules (clausesOf Extended) true) G)
+  pub within : Within (has m) (Least (UnitClosed (clausesOf Extended)) G)
 
 -- it is a contradiction, or leaves such marks, with the number that they decide
 abbrev pub SettledOk : (ℤ → Type 0) → List ℕ → Settled → Type 0
-SettledOk G m Clash = Contradiction (Least (Rules (clausesOf Extended) true) G)
+SettledOk G m Clash = Contradiction (Least (UnitClosed (clausesOf Extended)) G)
 SettledOk G m (Decided d) = Settles G m × (d ≡ decided m)
 
 -- What trials may do to marks: nothing is pending, no fewer variables are decided, and what was left is left.

@@ -19,13 +19,13 @@ ghost use Rattle.inference.specs.Steps.{MarksOk};
 ghost use Rattle.grading.specs.Search.{SettledOk};
 
 // What closing some literals comes to: a contradiction, or marks, with the number of variables that they decide.
-pub enum Settled {
+pub(crate) enum Settled {
     Clash,
     Decided(usize),
 }
 
 // The unit closure of a grid's givens.
-pub fn start(marks: &mut [u8; 729], grid: &[u8]) -> Settled
+pub(crate) fn start(marks: &mut [u8; 729], grid: &[u8]) -> Settled
     requires { ⌜ (now marks ≡ blank) × (length (now grid) ≡ 81) ⌝ }
     ensures { λ r. ⌜ SettledOk (λ l. List·Memᴰ l (givens (now (grid .entry)))) (now (marks .exit)) r ⌝ }
 {
@@ -37,7 +37,7 @@ pub fn start(marks: &mut [u8; 729], grid: &[u8]) -> Settled
 }
 
 // The unit closure of marks with a literal more that they do not decide.
-pub fn join(marks: &mut [u8; 729], decided: usize, literal: i16) -> Settled
+pub(crate) fn join(marks: &mut [u8; 729], decided: usize, literal: i16) -> Settled
     requires { ⌜ MarksOk Extended (now marks) × (decided ≡ decisions (now marks)) × Literal literal × (T (isDecided (now marks) literal) → ⊥) ⌝ }
     ensures { λ r. ⌜ SettledOk (With (has (now (marks .entry))) literal) (now (marks .exit)) r ⌝ }
 {
@@ -49,7 +49,7 @@ pub fn join(marks: &mut [u8; 729], decided: usize, literal: i16) -> Settled
 }
 
 // The unit closure of marks with one place more true: a contradiction where it is false.
-pub fn assume(marks: &mut [u8; 729], decided: usize, place: usize) -> Settled
+pub(crate) fn assume(marks: &mut [u8; 729], decided: usize, place: usize) -> Settled
     requires { ⌜ MarksOk Extended (now marks) × (decided ≡ decisions (now marks)) × (place < 729) × (T (has (now marks) (pos (suc place))) → ⊥) ⌝ }
     ensures { λ r. ⌜ SettledOk (With (has (now (marks .entry))) (pos (suc place))) (now (marks .exit)) r ⌝ }
 {

@@ -200,7 +200,7 @@ fn weigh(
 }
 
 // Whether the marks are shown to leave nothing. Where they are not, they become those of a full grid that they leave.
-pub fn refuted(marks: &mut [u8; 729], decided: usize, failures: &mut [u32; 729]) -> bool
+pub(crate) fn refuted(marks: &mut [u8; 729], decided: usize, failures: &mut [u32; 729]) -> bool
     requires { ⌜ MarksOk Extended (now marks) × (decided ≡ decisions (now marks)) ⌝ }
     ensures { λ r. ⌜ (r ≡ true → left (now (marks .entry)) ≡ List.[]) ⌝ }
 {

@@ -185,7 +185,7 @@ fn explore(
 }
 
 // The completions of a grid of 81 bytes.
-pub fn find(grid: &[u8]) -> Found
+pub(crate) fn find(grid: &[u8]) -> Found
     requires { ⌜ length (now grid) ≡ 81 ⌝ }
     ensures { λ r. ⌜ r ≡ foundOf (completions (now (grid .entry))) ⌝ }
 {

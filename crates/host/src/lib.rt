@@ -216,7 +216,7 @@ pub extern "C" fn grader_read_job_file(file: &[u8], grid: &mut [u8], order: &mut
 pub extern "C" fn grader_header(out: &mut [u8; 20])
     ensures { λ _. ⌜ now (out .exit) ≡ headerLine ⌝ }
 {
-    *out = listing::header();
+    *out = listing::HEADER;
 }
 
 #[no_mangle]

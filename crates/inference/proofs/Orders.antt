@@ -68,7 +68,7 @@ module _ (o : List ℤ) (l : ℤ) where
       )
 
 -- an entry is a repeat exactly if an earlier one is equal
-pub repeats-iff : (o : List ℤ) (i : ℕ) → T (repeats o i) ↔ ((j : ℕ) × (j < i) × (entry o j ≡ entry o i))
+repeats-iff : (o : List ℤ) (i : ℕ) → T (repeats o i) ↔ ((j : ℕ) × (j < i) × (entry o j ≡ entry o i))
 unfolding repeats
 repeats-iff o i = among-iff o (entry o i) i
 
@@ -100,7 +100,7 @@ accepted-order o e = let t = accepted-iff o .0 e in (
       subst T f (repeats-iff o j .1 (i, a, q)),
 )
 
-pub order-accepted : (o : List ℤ) → EachOnce o → orderCheck o ≡ Accepted
+order-accepted : (o : List ℤ) → EachOnce o → orderCheck o ≡ Accepted
 unfolding firstNoLiteral firstRepeat
 order-accepted o h = accepted-iff o .1 (
   h .0,

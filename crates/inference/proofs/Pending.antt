@@ -75,22 +75,22 @@ module _ (s : ClauseSet) (f : Kind) (p : ℕ) (b : p < 729) where
       (closed-strikes s S u f h p b (indexAt f p) (o .0) (i .0) (o .1) (λ e. o .2 .1 (o .2 .0 ∙ ap (placeOf (groupAt f p)) (sym e) ∙ i .1))
       (subst (λ x. T (S (pos (suc x)))) (sym (i .1)) (g _ y)))
 
-  pub strike-follows : PairKind s f → {m tr m' tr' : List ℕ} {t t' : ℕ} → True m p → Struck (OtherIn 9 f p) m tr t m' tr' t' → Follows s m m'
+  strike-follows : PairKind s f → {m tr m' tr' : List ℕ} {t t' : ℕ} → True m p → Struck (OtherIn 9 f p) m tr t m' tr' t' → Follows s m m'
   strike-follows h {m} y w l x =
       ⊎-elim (λ z. least-given (UnitClosed (clausesOf s)) l z) (λ z S u g. subst (λ k. T (S k)) (sym (z .2)) (strike-least h m y (z .0) (z .1) S u g)) (w .only l x)
 
-  pub strike-clashes : PairKind s f → (m : List ℕ) → True m p → (q : ℕ) × OtherIn 9 f p q × True m q → Clashes s m
+  strike-clashes : PairKind s f → (m : List ℕ) → True m p → (q : ℕ) × OtherIn 9 f p q × True m q → Clashes s m
   strike-clashes h m y z = (z .0, least-given (UnitClosed (clausesOf s)) _ (z .2), strike-least h m y (z .0) (z .1))
 
   -- the last place of its group is true in the closure
   last-least : NineKind s f → (m : List ℕ) (k : ℕ) → k < 9 → AllBut m (groupAt f p) k → Least (UnitClosed (clausesOf s)) (λ l. T (has m l)) (pos (suc (placeOf (groupAt f p) k)))
   last-least h m k c a S u g = closed-lasts s S u f h p b k c (λ j d n. g _ (a j d n))
 
-  pub settle-follows : NineKind s f → {m tr m' tr' : List ℕ} {t t' : ℕ} → Settled (groupAt f p) m tr t m' tr' t' → Follows s m m'
+  settle-follows : NineKind s f → {m tr m' tr' : List ℕ} {t t' : ℕ} → Settled (groupAt f p) m tr t m' tr' t' → Follows s m m'
   settle-follows h {m} w l x =
       ⊎-elim (λ z. least-given (UnitClosed (clausesOf s)) l z) (λ z S u g. subst (λ k. T (S k)) (sym (z .2)) (last-least h m (z .0) (z .1) (z .3) S u g)) (w .only l x)
 
-  pub settle-clashes : NineKind s f → (m : List ℕ) → AllFalse m (groupAt f p) → Clashes s m
+  settle-clashes : NineKind s f → (m : List ℕ) → AllFalse m (groupAt f p) → Clashes s m
   settle-clashes h m a = (placeOf (groupAt f p) 0, last-least h m 0 (omega arith) (λ j d n. a j d), least-given (UnitClosed (clausesOf s)) _ (a 0 (omega arith)))
 
 -- fewer kinds

@@ -50,7 +50,7 @@ pub struck-none : {O : ℕ → Type 0} {m tr : List ℕ} {t : ℕ} → Ready m t
 struck-none r n = record { moved = moved-none r; struck = λ q o. absurd (n q o); only = λ l p. inl p }
 
 -- some places, then others
-pub struck-more : {O A B : ℕ → Type 0} {m tr m' tr' m'' tr'' : List ℕ} {t t' t'' : ℕ}
+struck-more : {O A B : ℕ → Type 0} {m tr m' tr' m'' tr'' : List ℕ} {t t' t'' : ℕ}
     → Struck A m tr t m' tr' t' → Struck B m' tr' t' m'' tr'' t''
     → ((q : ℕ) → O q → A q ⊎ B q) → ((q : ℕ) → A q → O q) → ((q : ℕ) → B q → O q) → Struck O m tr t m'' tr'' t''
 struck-more v w split a b =

@@ -22,7 +22,7 @@ use Rattle.inference.specs.declared.technique.Numbered.the-variants.{Kno
 
 -- what holds of the four techniques under their numbers holds of every technique that has a number
 module _ (P : ℕ → Technique → Type 0) (one : P 1 unitMinimal) (two : P 2 unitExtended) (three : P 3 trialsMinimal) (four : P 4 trialsExtended) where
-  pub each-technique : (n : ℕ) (t : Technique) → techniqueOf n ≡ Known t → P n t
+  each-technique : (n : ℕ) (t : Technique) → techniqueOf n ≡ Known t → P n t
   unfolding techniqueOf
   each-technique n t e = go (ℕ-discrete n 1) (ℕ-discrete n 2) (ℕ-discrete n 3) (ℕ-discrete n 4)
     where

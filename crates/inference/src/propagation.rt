@@ -10,7 +10,7 @@ ghost use Rattle.inference.specs.Groups.{groupAt, placeAlong, LineOf, ki
 ghost use Rattle.inference.specs.Trail.{True, Ready, Ends, Struck, Other, OtherIn, LeftOf, AllFalse, Settled, Clashes, StruckAll, SettledAll, Visited, Places};
 
 // The groups of a place: the row, the column and the box of its cell for its digit, and its cell.
-pub enum Kind {
+pub(crate) enum Kind {
     Row,
     Column,
     Box,
@@ -39,7 +39,7 @@ fn kind_at(i: usize) -> Kind
 }
 
 // The nine places of a group, three by three: the k-th is first + far * (k / 3) + near * (k % 3).
-pub struct Line {
+pub(crate) struct Line {
     pub first: usize,
     pub far: usize,
     pub near: usize,
@@ -150,7 +150,7 @@ fn strike(
 }
 
 // What a group of nine says: nothing, that all of its places are false, or that one is left.
-pub enum Left {
+pub(crate) enum Left {
     Nothing,
     None,
     One(usize),
@@ -309,7 +309,7 @@ fn visit(
 }
 
 // Looks at all of the trail, and at what is put on it meanwhile.
-pub fn propagate(
+pub(crate) fn propagate(
     marks: &mut [u8; 729],
     trail: &mut [u16; 729],
     tail: usize,

@@ -36,7 +36,7 @@ pub fn close_with(marks: &mut [u8; 729], set: ClauseSet, literal: i16) -> Reache
 }
 
 // What a trial shows: nothing; that the negation joins, with the number of variables that it decides; or a contradiction.
-pub enum Shown {
+pub(crate) enum Shown {
     Kept,
     Refuted(usize),
     Broken,
@@ -76,7 +76,7 @@ pub enum End {
 }
 
 // How a pass goes, with the number of variables decided: on, with the count and whether a trial has failed; or to the end of the job.
-pub enum Pass {
+pub(crate) enum Pass {
     Walked(usize, u32, bool),
     Ended(usize, End),
 }
@@ -157,7 +157,7 @@ pub struct Ended {
 }
 
 // Passes along the order: each but the last decides a variable, so 729 are enough.
-pub fn passes(state: State, set: ClauseSet, order: &[i16], ceiling: u32) -> Ended
+pub(crate) fn passes(state: State, set: ClauseSet, order: &[i16], ceiling: u32) -> Ended
     requires { ⌜ StateOk set state × Literals (now order) ⌝ }
     ensures { λ r. ⌜ (endOf (r .end) (r .state .marks) ≡ passesAlong (clausesOf set) ceiling 729 (now (order .entry)) (state .marks) 0)
         × StateOk set (r .state) ⌝ }

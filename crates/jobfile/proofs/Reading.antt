@@ -17,28 +17,28 @@ use Rattle.jobfile.specs.declared.piece.Piece.the-variants.{Whole, Refus
 -- the tests in their order, each on those before it
 module _ (long kind left at last : ℕ) where
   pub head-short : left < 4 → Refused (refusal 31 at) ≡ pieceOf long kind left at last
-  head-short n = rw (lt-leb 4 left n)
+  head-short n = rw (lt-leb 4 left n) refl
 
   module _ (head : 4 ≤ left) where
     pub body-short : left < 4 + long → Refused (refusal 31 at) ≡ pieceOf long kind left at last
-    body-short n = rw (le-leb 4 left head, lt-leb (4 + long) left n)
+    body-short n = rw (le-leb 4 left head, lt-leb (4 + long) left n) refl
 
     module _ (body : 4 + long ≤ left) where
       pub not-rising : kind ≤ last → Refused (refusal 32 at) ≡ pieceOf long kind left at last
-      not-rising n = rw (le-leb 4 left head, le-leb (4 + long) left body, le-ltb last kind n)
+      not-rising n = rw (le-leb 4 left head, le-leb (4 + long) left body, le-ltb last kind n) refl
 
       module _ (rises : last < kind) where
         pub unknown : 4 < kind → Refused (refusal 32 at) ≡ pieceOf long kind left at last
-        unknown n = rw (le-leb 4 left head, le-leb (4 + long) left body, lt-ltb last kind rises, lt-leb kind 4 n)
+        unknown n = rw (le-leb 4 left head, le-leb (4 + long) left body, lt-ltb last kind rises, lt-leb kind 4 n) refl
 
         module _ (known : kind ≤ 4) where
           pub wrong-length : (long ≡ bodyLength kind → ⊥) → Refused (refusal 33 at) ≡ pieceOf long kind left at last
           wrong-length n =
-              rw (le-leb 4 left head, le-leb (4 + long) left body, lt-ltb last kind rises, le-leb kind 4 known, ne-eqb long (bodyLength kind) n)
+              rw (le-leb 4 left head, le-leb (4 + long) left body, lt-ltb last kind rises, le-leb kind 4 known, ne-eqb long (bodyLength kind) n) refl
 
           pub is-whole : long ≡ bodyLength kind → Whole kind (at + 4 + long) ≡ pieceOf long kind left at last
           is-whole e =
-              rw (le-leb 4 left head, le-leb (4 + long) left body, lt-ltb last kind rises, le-leb kind 4 known, eq-eqb long (bodyLength kind) e)
+              rw (le-leb 4 left head, le-leb (4 + long) left body, lt-ltb last kind rises, le-leb kind 4 known, eq-eqb long (bodyLength kind) e) refl
 
 -- the piece at a place, by the numbers that are read there
 pub as-read : (f : List ℕ) (at last long kind : ℕ) → long ≡ wordAt f at → kind ≡ wordAt f (at + 2) → pieceOf long kind (length f - at) at last ≡ pieceAt f at last

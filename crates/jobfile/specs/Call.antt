@@ -5,13 +5,12 @@ use Prim.Native.Nat.{ℕ}
 use lib.Dec.{eqb}
 use lib.IntN.{ℤ}
 use lib.ListN.{length}
-use Rattle.grid.specs.Refusals.{refusal, gridCheck}
+use Rattle.grid.specs.Refusals.{refusal, onAccepted, gridCheck}
+use Rattle.grid.specs.declared.Refusal.{Refusal}
 use Rattle.grid.specs.declared.Checked.{Checked}
 use Rattle.grid.specs.declared.Checked.the-variants as check
 use Rattle.inference.specs.Order.{orderCheck}
-use Rattle.inference.specs.Technique.{techniqueOf}
-use Rattle.inference.specs.declared.technique.Numbered.{Numbered}
-use Rattle.inference.specs.declared.technique.Numbered.the-variants.{Known, Unknown}
+use Rattle.inference.specs.Technique.{techniqueOf, onKnown}
 use Rattle.jobfile.specs.Pieces.{piecesOf}
 use Rattle.jobfile.specs.Bodies.{gridIn, techniqueIn, ceilingIn, orderIn}
 use Rattle.jobfile.specs.declared.ReadAnswer.{ReadAnswer}
@@ -27,39 +26,31 @@ lentCheck grid order =
     (cond (eqb order 1458) check.Accepted (check.Refused (refusal 46 0)))
     (check.Refused (refusal 42 0))
 
--- a check, then another where it accepts
-abbrev pub andThen : Checked → Checked → Checked
-andThen check.Accepted k = k
-andThen (check.Refused r) k = check.Refused r
-
--- 21: there is no technique of that number
-abbrev pub techniqueCheck : Numbered → Checked
-techniqueCheck (Known t) = check.Accepted
-techniqueCheck Unknown = check.Refused (refusal 21 0)
-
 -- the keyer's check of the grid, the technique, and the operator's check of the order
 unfoldable pub contentsCheck : List ℕ → ℕ → List ℤ → Checked
-contentsCheck grid technique order = andThen (gridCheck grid) (andThen (techniqueCheck (techniqueOf technique)) (orderCheck order))
+contentsCheck grid technique order =
+    onAccepted (gridCheck grid) check.Refused λ u. onKnown (techniqueOf technique) check.Refused λ t. orderCheck order
 
 -- what a reading call gives back: its answer, and the lent grid and the lent order at its return
 abbrev pub Given : Type 0
 Given = ReadAnswer × List ℕ × List ℤ
 
--- on where a check accepts; a refusal changes nothing
-abbrev pub onAccepted : Checked → List ℕ → List ℤ → Given → Given
-onAccepted check.Accepted g o k = k
-onAccepted (check.Refused r) g o k = (Refused r, g, o)
+-- a refusal changes nothing
+abbrev pub refused : List ℕ → List ℤ → Refusal → Given
+refused g o r = (Refused r, g, o)
 
--- on where the pieces are whole; a refusal changes nothing
-abbrev pub onWhole : Pieces → List ℕ → List ℤ → (Bodies → Given) → Given
-onWhole (pieces.Whole b) g o k = k b
-onWhole (pieces.Refused r) g o k = (Refused r, g, o)
+-- on where the pieces are whole; else what a refusal gives
+abbrev pub onWhole : Pieces → (Refusal → Given) → (Bodies → Given) → Given
+onWhole (pieces.Whole b) refused k = k b
+onWhole (pieces.Refused r) refused k = refused r
 
 -- what the bodies say, if it is accepted: technique and ceiling, the grid as it is in the file, and the order
 unfoldable pub readBodies : List ℕ → Bodies → List ℕ → List ℤ → Given
 readBodies f b g o =
-    onAccepted (contentsCheck (gridIn f b) (techniqueIn f b) (orderIn f b)) g o (Read (techniqueIn f b) (ceilingIn f b), gridIn f b, orderIn f b)
+    onAccepted (contentsCheck (gridIn f b) (techniqueIn f b) (orderIn f b)) (refused g o) λ u.
+    (Read (techniqueIn f b) (ceilingIn f b), gridIn f b, orderIn f b)
 
 -- the host's part, then the layout software's, then the keyer's and the operator's
 unfoldable pub readCall : List ℕ → List ℕ → List ℤ → Given
-readCall f g o = onAccepted (lentCheck (length g) (length o)) g o (onWhole (piecesOf f) g o λ b. readBodies f b g o)
+readCall f g o =
+    onAccepted (lentCheck (length g) (length o)) (refused g o) λ u. onWhole (piecesOf f) (refused g o) λ b. readBodies f b g o

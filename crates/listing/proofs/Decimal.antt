@@ -26,18 +26,18 @@ unfolding decimal decimalIn
 decimal-digit n h = rw (lt-ltb n 10 h) refl
 
 -- more than one
-pub decimal-more : (n : ℕ) → 10 ≤ n → decimal n ≡ decimal (n / 10) ++ ((48 + n % 10) ∷ [])
+decimal-more : (n : ℕ) → 10 ≤ n → decimal n ≡ decimal (n / 10) ++ ((48 + n % 10) ∷ [])
 unfolding decimal decimalIn
 decimal-more n h = rw (le-ltb n 10 h) (ap (λ x. x ++ ((48 + n % 10) ∷ [])) (room n (suc (n / 10)) (n / 10) (omega arith) (omega arith)))
 
 -- one part after the other
-pub put-more : (at : ℕ) (cs bs out : List ℕ) → put (at + length cs) bs (put at cs out) ≡ put at (cs ++ bs) out
+put-more : (at : ℕ) (cs bs out : List ℕ) → put (at + length cs) bs (put at cs out) ≡ put at (cs ++ bs) out
 unfolding put
 put-more at [] bs out = let e : at + 0 ≡ at = omega arith in rw e refl
 put-more at (c ∷ cs) bs out = let e : at + suc (length cs) ≡ suc at + length cs = omega arith in rw e (put-more (suc at) cs bs (set out at c))
 
 -- a part after the parts before it
-pub put-after : (at r : ℕ) (cs bs out mid : List ℕ) → r ≡ at + length cs → mid ≡ put at cs out → put r bs mid ≡ put at (cs ++ bs) out
+put-after : (at r : ℕ) (cs bs out mid : List ℕ) → r ≡ at + length cs → mid ≡ put at cs out → put r bs mid ≡ put at (cs ++ bs) out
 put-after at r cs bs out mid p q = rw (p, q) (put-more at cs bs out)
 
 pub put-long : (at : ℕ) (bs out : List ℕ) → length (put at bs out) ≡ length out

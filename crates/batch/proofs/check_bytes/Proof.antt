@@ -1,4 +1,5 @@
 -- The place of the first byte of no meaning is compared with the length.
+use mathlib.Core.Path.{refl}
 use borrow.Author.Needs.{needs}
 use borrow.Author.Tests.{lt-ltb, le-ltb}
 use lib.ListN.{length}
@@ -8,7 +9,7 @@ use Rattle.batch.proofs.check_bytes.Tie as tie
 
 returns : tie.Need-returns
 unfolding bytesCheck
-returns c = let f = c .before .first-bad-byte in let g = c .before .before .before .args .grids .now in rw (← f .ensures, lt-ltb (f .result) (length g) (c .if1 .taken))
+returns c = let f = c .before .first-bad-byte in let g = c .before .before .before .args .grids .now in rw (← f .ensures, lt-ltb (f .result) (length g) (c .if1 .taken)) refl
 
 returns-2 : tie.Need-returns-2
 unfolding bytesCheck

@@ -1,17 +1,18 @@
 -- A case for each answer.
-use mathlib.Core.Path.{ap, sym, _∙_}
+use mathlib.Core.Path.{ap, _∙_}
 use Rattle.host.specs.Packed.{packedCounted, packedJob}
 use borrow.Author.Needs.{needs}
+use Rattle.host.proofs.Packing.{by-case}
 use Rattle.host.proofs.pack_job.Statement.{statement}
 use Rattle.host.proofs.pack_job.Tie as tie
 
 returns : tie.Need-returns
 returns c =
     let a = c .before .before .before .a in
-    c .pack-counted .ensures ∙ ap (λ x. packedCounted x (a .given .0 .1 .0)) (c .before .outcome-number .ensures) ∙ ap packedJob (sym (a .given .1))
+    by-case packedJob _ _ _ (a .given .1) (c .pack-counted .ensures ∙ ap (λ x. packedCounted x (a .given .0 .1 .0)) (c .before .outcome-number .ensures))
 
 returns-2 : tie.Need-returns-2
-returns-2 c = c .pack-refusal .ensures ∙ ap packedJob (sym (c .before .before .a2 .given .1))
+returns-2 c = by-case packedJob _ _ _ (c .before .before .a2 .given .1) (c .pack-refusal .ensures)
 
 pub pack-job-spec : {M : Type 1} → statement M
 pack-job-spec =

@@ -1,4 +1,5 @@
 -- A ceiling that is there lies within the file; two words are below 65,536, so that their number fits.
+use mathlib.Core.Path.{refl}
 use Prim.Native.Nat.{_+_, _*_, _≤_}
 use native.Mathlib.Omega.{arith}
 use borrow.Author.Needs.{needs}
@@ -11,7 +12,7 @@ use Rattle.jobfile.proofs.ceiling_in.Tie as tie
 
 returns : tie.Need-returns
 unfolding ceilingIn
-returns c = rw (eq-eqb (c .before .before .args .bodies .ceiling) 0 (c .if1 .taken))
+returns c = rw (eq-eqb (c .before .before .args .bodies .ceiling) 0 (c .if1 .taken)) refl
 
 -- four bytes
 lies : (c : tie.Else1) → c .before .before .args .bodies .ceiling + 4 ≤ length (c .before .before .args .file .now)

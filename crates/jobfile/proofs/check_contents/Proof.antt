@@ -4,21 +4,21 @@ use mathlib.Core.List.{List}
 use Prim.Native.Nat.{ℕ}
 use borrow.Author.Needs.{needs}
 use lib.IntN.{ℤ}
-use Rattle.grid.specs.Refusals.{gridCheck}
+use Rattle.grid.specs.Refusals.{onAccepted, gridCheck}
 use Rattle.grid.specs.declared.Checked.{Checked}
-use Rattle.grid.specs.declared.Checked.the-variants.{Accepted}
+use Rattle.grid.specs.declared.Checked.the-variants.{Accepted, Refused}
 use Rattle.inference.specs.Order.{orderCheck}
-use Rattle.inference.specs.Technique.{techniqueOf}
+use Rattle.inference.specs.Technique.{techniqueOf, onKnown}
 use Rattle.inference.specs.declared.technique.Numbered.{Numbered}
-use Rattle.jobfile.specs.Call.{andThen, techniqueCheck, contentsCheck}
+use Rattle.jobfile.specs.Call.{contentsCheck}
 use Rattle.jobfile.proofs.check_contents.Statement.{statement}
 use Rattle.jobfile.proofs.check_contents.Tie as tie
 
 -- by what the checks say
 tested : (g : List ℕ) (n : ℕ) (o : List ℤ) (w : Checked) (y : Numbered) → w ≡ gridCheck g → y ≡ techniqueOf n
-    → andThen w (andThen (techniqueCheck y) (orderCheck o)) ≡ contentsCheck g n o
+    → onAccepted w Refused (λ u. onKnown y Refused λ t. orderCheck o) ≡ contentsCheck g n o
 unfolding contentsCheck
-tested g n o w y p q = λ i. andThen (p i) (andThen (techniqueCheck (q i)) (orderCheck o))
+tested g n o w y p q = λ i. onAccepted (p i) Refused λ u. onKnown (q i) Refused λ t. orderCheck o
 
 returns : tie.Need-returns
 returns c =

@@ -8,12 +8,12 @@ use borrow.Author.Tests.{eqb-true}
 use lib.Dec.{eqb}
 use lib.IntN.{ℤ}
 use lib.ListN.{length}
-use Rattle.grid.specs.Refusals.{refusal}
+use Rattle.grid.specs.Refusals.{refusal, onAccepted}
 use Rattle.grid.specs.declared.Checked.{Checked}
 use Rattle.grid.specs.declared.Checked.the-variants as check
 use Rattle.grid.proofs.Completion.{not-accepted}
 use Rattle.jobfile.specs.Pieces.{piecesOf}
-use Rattle.jobfile.specs.Call.{lentCheck, onAccepted, onWhole, readBodies, readCall}
+use Rattle.jobfile.specs.Call.{lentCheck, refused, onWhole, readBodies, readCall}
 use Rattle.jobfile.specs.declared.piece.Pieces.{Pieces}
 use Rattle.jobfile.specs.declared.piece.Pieces.the-variants.{Whole}
 use Rattle.jobfile.proofs.Walking.{pieces-readable}
@@ -22,9 +22,9 @@ use Rattle.jobfile.proofs.read.Tie as tie
 
 -- by what the check and the pieces say
 tested : (f g : List ℕ) (o : List ℤ) (w : Checked) (p : Pieces) → w ≡ lentCheck (length g) (length o) → p ≡ piecesOf f
-    → onAccepted w g o (onWhole p g o (λ b. readBodies f b g o)) ≡ readCall f g o
+    → onAccepted w (refused g o) (λ u. onWhole p (refused g o) λ b. readBodies f b g o) ≡ readCall f g o
 unfolding readCall
-tested f g o w p d e = λ i. onAccepted (d i) g o (onWhole (e i) g o (λ b. readBodies f b g o))
+tested f g o w p d e = λ i. onAccepted (d i) (refused g o) λ u. onWhole (e i) (refused g o) λ b. readBodies f b g o
 
 -- buffers that are accepted have their lengths
 lent-accepted : (g o : ℕ) → check.Accepted ≡ lentCheck g o → (g ≡ 81) × (o ≡ 1458)

@@ -5,11 +5,12 @@ use Prim.Native.Nat.{ℕ, _+_, _-_, _≤_}
 use native.Mathlib.Omega.{arith}
 use borrow.Author.Needs.{needs}
 use lib.ListN.{length, take, drop}
+use Rattle.grid.specs.Refusals.{onAccepted}
 use Rattle.grid.specs.declared.Checked.{Checked}
 use Rattle.grid.specs.declared.Checked.the-variants.{Accepted}
 use Rattle.jobfile.specs.Pieces.{bodyLength}
 use Rattle.jobfile.specs.Bodies.{gridIn, techniqueIn, ceilingIn, orderIn}
-use Rattle.jobfile.specs.Call.{contentsCheck, onAccepted, readBodies}
+use Rattle.jobfile.specs.Call.{contentsCheck, refused, readBodies}
 use Rattle.jobfile.specs.declared.ReadAnswer.the-variants.{Read}
 use Rattle.jobfile.specs.declared.piece.Bodies.{Bodies}
 use Rattle.jobfile.proofs.read_bodies.Statement.{statement}
@@ -36,10 +37,10 @@ module _ (c : tie.Start) where
 
   -- by what the check says
   tested : (w : Checked) → w ≡ contentsCheck (gridIn f b) (techniqueIn f b) (orderIn f b)
-      → onAccepted w (c .args .grid .now) (c .args .order .now) (Read (techniqueIn f b) (ceilingIn f b), gridIn f b, orderIn f b)
+      → onAccepted w (refused (c .args .grid .now) (c .args .order .now)) (λ u. (Read (techniqueIn f b) (ceilingIn f b), gridIn f b, orderIn f b))
       ≡ readBodies f b (c .args .grid .now) (c .args .order .now)
   unfolding readBodies
-  tested w e = λ i. onAccepted (e i) (c .args .grid .now) (c .args .order .now) (Read (techniqueIn f b) (ceilingIn f b), gridIn f b, orderIn f b)
+  tested w e = λ i. onAccepted (e i) (refused (c .args .grid .now) (c .args .order .now)) λ u. (Read (techniqueIn f b) (ceilingIn f b), gridIn f b, orderIn f b)
 
 cast-technique : tie.Need-cast-technique
 cast-technique c = let s = c .before .before .before .before in omega (arith, c .shared-slice-known2 .given (b s .technique))

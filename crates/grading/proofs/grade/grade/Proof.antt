@@ -5,12 +5,13 @@ use Prim.Native.Nat.{ℕ}
 use native.Mathlib.Omega.{arith}
 use borrow.Author.Needs.{needs}
 use lib.IntN.{ℤ}
+use Rattle.grid.specs.Refusals.{onAccepted}
 use Rattle.grid.specs.declared.Checked.{Checked}
 use Rattle.grid.specs.declared.Checked.the-variants as check
 use Rattle.inference.proofs.Calls.{accepted-long}
 use Rattle.inference.proofs.Orders.{accepted-order}
 use Rattle.inference.specs.Order.{orderCheck}
-use Rattle.grading.specs.Grade.{gradeOf, onAccepted, gradeCall}
+use Rattle.grading.specs.Grade.{gradeOf, refused, gradeCall}
 use Rattle.grading.proofs.GradeCalls.{call-short, call-checked}
 use Rattle.grading.proofs.grade.grade.Statement.{statement}
 use Rattle.grading.proofs.grade.grade.Tie as tie
@@ -32,7 +33,8 @@ module _ (c : tie.After-check-grid) where
   b = start .args .completion .now
 
   -- by what the two checks say
-  passed : (x z : Checked) → c .check-grid .result ≡ x → z ≡ orderCheck o → onAccepted x b (λ u. onAccepted z b λ w. gradeOf g o (start .args .ceiling)) ≡ gradeCall g o (start .args .ceiling) b
+  passed : (x z : Checked) → c .check-grid .result ≡ x → z ≡ orderCheck o
+      → onAccepted x (refused b) (λ u. onAccepted z (refused b) λ w. gradeOf g o (start .args .ceiling)) ≡ gradeCall g o (start .args .ceiling) b
   passed x z e f = call-checked g o (start .args .ceiling) b (c .before .if1 .left) x z (sym e ∙ c .check-grid .ensures) f
 
 returns-2 : tie.Need-returns-2

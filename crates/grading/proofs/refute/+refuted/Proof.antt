@@ -2,8 +2,7 @@
 -- answer promises nothing.
 use mathlib.Core.Path.{_≡_, refl, subst, _∙_}
 use mathlib.Core.Logic.{inl, inr, ⊎-elim}
-use mathlib.Core.Bool.{true}
-use mathlib.Core.List.{List, []}
+use mathlib.Core.List.{List}
 use Prim.Native.Nat.{ℕ, suc, _+_, _-_, _≤_, _<_}
 use native.Mathlib.Decide.{decLt}
 use native.Mathlib.Omega.{arith}
@@ -12,7 +11,6 @@ use borrow.Author.Tests.{not-false}
 use borrow.Fn.Kinds.{In}
 use borrow.Fn.PlainCycle.{Measures, is, falls, and}
 use lib.Dec.{T}
-use Rattle.grid.proofs.Completion.{eq-iff}
 use lib.IntN.{ℤ, pos}
 use Rattle.clauses.specs.Shape.{placeOf}
 use Rattle.closure.specs.Closure.{With}
@@ -21,6 +19,7 @@ use Rattle.closure.proofs.Marks.{decided-grows, decided-bounded}
 use Rattle.clauses.proofs.decode.place.Reads as place-reads
 use Rattle.grading.specs.Search.{left, Settles, SettledOk, Weighs, WeighedOk}
 use Rattle.grading.specs.declared.branch.Settled.the-variants.{Decided}
+use Rattle.grading.proofs.Settling.{not-marked}
 use Rattle.grading.proofs.Refuting.{Refuted, clash-refutes, none-refutes, group-refutes, weighs-none, not-refuted}
 use Rattle.grading.proofs.refute.refuted.Reads as refuted
 use Rattle.grading.proofs.refute.refuted.Kinds as refuted-kinds
@@ -88,8 +87,7 @@ module _ (t : ℕ) (c : lts.After-group-at (calls t) (refuted-at t) refuted.Post
 
 -- a place that is true ends the test
 not-true : (t : ℕ) (c : lts.After-next2 (calls t) (refuted-at t) refuted.Post Inv μ-loop) → T (has (c .before .before .before .before .before .before .loop .marks) (pos (suc (c .before .before .before .before .place .result)))) → ⊥
-unfolding has
-not-true t c y = c .before .before .if3 .left (eq-iff _ 1 .0 y)
+not-true t c = not-marked _ _ (c .before .before .if3 .left)
 
 -- where a place has been assumed
 module _ (t : ℕ) (c : lts.After-assume (calls t) (refuted-at t) refuted.Post Inv μ-loop) where

@@ -2,19 +2,19 @@
 use mathlib.Core.Path.{_≡_, refl, subst}
 use mathlib.Core.Logic.{inl, inr}
 use mathlib.Core.List.{List}
-use Prim.Native.Nat.{ℕ, suc, _-_, _<_}
+use Prim.Native.Nat.{ℕ, suc, _-_}
 use native.Mathlib.Omega.{arith}
 use borrow.Author.Needs.{needs}
 use lib.Dec.{T}
-use lib.IntN.{pos, negsuc}
+use lib.IntN.{pos}
 use Rattle.clauses.specs.declared.ClauseSet.the-variants.{Extended}
 use Rattle.closure.specs.Closure.{With}
 use Rattle.closure.specs.Marks.{has, decided as decisions}
-use Rattle.closure.proofs.Marks.{or-iff, decided-grows, decided-bounded}
+use Rattle.closure.proofs.Marks.{decided-grows, decided-bounded}
 use Rattle.inference.specs.Steps.{MarksOk}
-use Rattle.inference.proofs.Trying.{byte-open}
 use Rattle.grading.specs.Search.{SettledOk}
 use Rattle.grading.specs.declared.branch.Settled.the-variants.{Decided}
+use Rattle.grading.proofs.Settling.{not-marked}
 use Rattle.grading.proofs.refute.dive.Statement.{statement}
 use Rattle.grading.proofs.refute.dive.Tie as tie
 
@@ -33,9 +33,7 @@ module _ (c : tie.After-assume-arg Inv-loop μ-loop) where
   p = c .before .before .before .open-place .result
 
   not-true : T (has m (pos (suc p))) → ⊥
-  not-true t =
-      let h : p < 729 = c .before .before .before .open-place .ensures in
-      byte-open m (pos (suc p)) h (c .before .if2 .left) (or-iff (has m (pos (suc p))) (has m (negsuc p)) .1 (inl t))
+  not-true = not-marked m p (λ e. omega (arith, e, c .before .if2 .left))
 
 assume-requires : tie.Need-assume-requires Inv-loop μ-loop
 assume-requires c κs =

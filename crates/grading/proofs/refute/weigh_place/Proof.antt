@@ -6,7 +6,7 @@ use Prim.Native.Nat.{ℕ, suc}
 use native.Mathlib.Omega.{arith}
 use borrow.Author.Needs.{needs}
 use lib.Dec.{T}
-use lib.IntN.{pos, negsuc, negℤ}
+use lib.IntN.{pos, negsuc}
 use lib.ListN.{getD}
 use mir.Syntax.{w16}
 use mir.Val.{toZ, ofZ}
@@ -14,10 +14,11 @@ use Rattle.clauses.specs.Literal.{Literal}
 use Rattle.clauses.proofs.Signed.{returned}
 use Rattle.closure.specs.Closure.{With}
 use Rattle.closure.specs.Marks.{has, isDecided}
-use Rattle.closure.proofs.Marks.{or-iff, decided-rises}
+use Rattle.closure.proofs.Marks.{decided-rises}
 use Rattle.inference.proofs.Trying.{byte-open}
 use Rattle.grading.specs.Search.{SettledOk}
 use Rattle.grading.specs.declared.branch.Settled.the-variants.{Clash, Decided}
+use Rattle.grading.proofs.Settling.{not-marked}
 use Rattle.grading.proofs.Refuting.{Refuted, clash-refutes, struck-weighs, weighs-none}
 use Rattle.grading.proofs.refute.weigh_place.Statement.{statement}
 use Rattle.grading.proofs.refute.weigh_place.Tie as tie
@@ -30,9 +31,7 @@ assume-requires : tie.Need-assume-requires
 assume-requires c κs =
     let s = c .before .before .before .before in
     let z : Open s = c .before .before .if1 .left in
-    let m = s .args .marks .now in
-    let l = pos (suc (s .args .place)) in
-    (s .pre .0, s .pre .1, s .pre .2, λ t. byte-open m l (s .pre .2) z (or-iff (has m l) (has m (negℤ l)) .1 (inl t)))
+    (s .pre .0, s .pre .1, s .pre .2, not-marked (s .args .marks .now) (s .args .place) (λ e. omega (arith, e, z)))
 
 module _ (c : tie.After-assume) where
   abbrev first : tie.Start

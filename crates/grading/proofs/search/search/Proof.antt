@@ -4,12 +4,13 @@ use mathlib.Core.List.{List}
 use Prim.Native.Nat.{ℕ}
 use native.Mathlib.Omega.{arith}
 use borrow.Author.Needs.{needs}
+use Rattle.grid.specs.Refusals.{onAccepted}
 use Rattle.grid.specs.declared.Checked.{Checked}
 use Rattle.grid.specs.declared.Checked.the-variants as check
 use Rattle.inference.proofs.Calls.{accepted-long}
 use Rattle.grading.specs.Completions.{completions}
 use Rattle.grading.specs.Search.{foundOf}
-use Rattle.grading.specs.Call.{counted, onAccepted, searchCall}
+use Rattle.grading.specs.Call.{counted, refused, searchCall}
 use Rattle.grading.proofs.Calls.{first-short, second-short, checked, found-bytes, copied}
 use Rattle.grading.proofs.search.search.Statement.{statement}
 use Rattle.grading.proofs.search.search.Tie as tie
@@ -36,7 +37,7 @@ module _ (c : tie.After-check-grid) where
   abbrev b : List ℕ
   b = start .args .second .now
 
-  passed : (k : Checked) → c .check-grid .result ≡ k → onAccepted k a b (λ u. counted (foundOf (completions g))) ≡ searchCall g a b
+  passed : (k : Checked) → c .check-grid .result ≡ k → onAccepted k (refused a b) (λ u. counted (foundOf (completions g))) ≡ searchCall g a b
   passed k e = checked g a b k (sym e ∙ c .check-grid .ensures) (c .before .before .if1 .left) (c .before .if2 .left)
 
 find-requires : tie.Need-find-requires

@@ -26,13 +26,13 @@ sub-result-2 c = rw (less (65535 - c .before .args .word) (omega arith)) (record
 
 returns : tie.Need-returns
 unfolding signedOf
-returns c = let n = c .before .args .word in toZ-pos w16 n (c .if1 .taken) ∙ rw (lt-ltb n 32768 (c .if1 .taken))
+returns c = let n = c .before .args .word in toZ-pos w16 n (c .if1 .taken) ∙ rw (lt-ltb n 32768 (c .if1 .taken)) refl
 
 returns-2 : tie.Need-returns-2
 unfolding signedOf
 returns-2 c =
     let n = c .before .args .word in
-    read _ (sub-result-2 c) ∙ less (65535 - n) (omega arith) ∙ rw (le-ltb n 32768 (c .if1 .left))
+    read _ (sub-result-2 c) ∙ less (65535 - n) (omega arith) ∙ rw (le-ltb n 32768 (c .if1 .left)) refl
 
 pub signed-spec : {M : Type 1} → statement M
 signed-spec = tie.close (tie.spec (λ c. search needs) (λ c. search needs) (λ c. search needs) sub-result-2 returns returns-2)

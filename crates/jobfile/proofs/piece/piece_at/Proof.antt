@@ -5,8 +5,10 @@ use Prim.Native.Nat.{ℕ, _+_, _-_, _≤_, _<_}
 use native.Mathlib.Omega.{arith}
 use borrow.Author.Needs.{needs}
 use lib.ListN.{length}
+use Rattle.grid.specs.Refusals.{refusal}
 use Rattle.jobfile.specs.Number.{wordAt}
 use Rattle.jobfile.specs.Pieces.{pieceOf, pieceAt}
+use Rattle.jobfile.specs.declared.piece.Piece.the-variants.{Refused}
 use Rattle.jobfile.proofs.Reading.{head-short, body-short, not-rising, unknown, wrong-length, is-whole, as-read}
 use Rattle.jobfile.proofs.piece.piece_at.Statement.{statement}
 use Rattle.jobfile.proofs.piece.piece_at.Tie as tie
@@ -100,7 +102,8 @@ returns-5 c =
     let k = named-kind b in
     let w = sized k in
     let s = first k in
-    c .refused5 .ensures
+    let given : c .refused5 .result ≡ Refused (refusal 33 (at s)) = c .refused5 .ensures in
+    given
     ∙ wrong-length (long w) (kind k) (left s) (at s) (last s) (head w) (body k) (rises (b .before .before)) (known b) (λ q. c .before .if5 .taken (q ∙ sym (b .body-length .ensures)))
     ∙ read k
 
