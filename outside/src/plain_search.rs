@@ -3,8 +3,9 @@
 //! takes the unit closure over the extended set, and branches on the first open cell with its digits
 //! rising, so completions come in byte order. A branch is entered unless a test finds that it leaves
 //! nothing. The test first dives for a full grid. Else it tries each place, notes what the trial
-//! decides, and branches on the group that promises the smallest tree. A full grid that it comes upon
-//! is kept as a guess, and a branch that the guess agrees with needs no test.
+//! decides, and branches on the group that promises the smallest tree; it starts again where that is
+//! too large. A full grid that it comes upon is kept as a guess, and a branch that the guess agrees
+//! with needs no test.
 
 use crate::cases::Grid;
 use crate::grid::{self, CELLS};
@@ -27,6 +28,16 @@ pub struct Search {
 
 /// How many groups there are: the cells, then each house for each digit.
 const GROUPS: usize = 324;
+
+/// What an attempt to refute a state comes to.
+enum Attempt {
+    /// It leaves nothing; so many nodes were not needed.
+    Refuted(usize),
+    /// A full grid that it leaves.
+    Full(State),
+    /// The nodes were too few.
+    Spent,
+}
 
 impl Search {
     /// The search of a checked grid.
@@ -75,15 +86,31 @@ impl Search {
         }
     }
 
-    /// None where a state leaves nothing, else a full grid that it leaves.
-    fn tested(&mut self, mut state: State) -> Option<State> {
-        self.nodes += 1;
-        if self.closures >= self.most_closures {
-            return None;
+    /// None where a state leaves nothing, else a full grid that it leaves. Each attempt has twice the
+    /// nodes of the one before.
+    fn tested(&mut self, state: State) -> Option<State> {
+        let mut nodes = 8;
+        loop {
+            if self.closures >= self.most_closures {
+                return None;
+            }
+            match self.attempt(state, nodes) {
+                Attempt::Refuted(_) => return None,
+                Attempt::Full(full) => return Some(full),
+                Attempt::Spent => nodes *= 2,
+            }
         }
-        let full = self.dive(state);
-        if full.is_some() {
-            return full;
+    }
+
+    /// An attempt to refute a state with so many nodes.
+    fn attempt(&mut self, mut state: State, nodes: usize) -> Attempt {
+        if nodes == 0 {
+            return Attempt::Spent;
+        }
+        self.nodes += 1;
+        let mut nodes = nodes - 1;
+        if let Some(full) = self.dive(state) {
+            return Attempt::Full(full);
         }
         let mut weights = [0; 729];
         for place in 0..state.marks.len() {
@@ -97,23 +124,23 @@ impl Search {
                     if self.failures[place] < 1_000_000 {
                         self.failures[place] += 4;
                     }
-                    return None;
+                    return Attempt::Refuted(nodes);
                 };
                 state = next;
             }
         }
         let Some(group) = lightest(&state, &weights, &self.failures, GROUPS) else {
-            return Some(state);
+            return Attempt::Full(state);
         };
         for place in places(group).filter(|&place| state.marks[place] == 0) {
             if let Some(next) = self.closed_with(&state, place as i16 + 1) {
-                let full = self.tested(next);
-                if full.is_some() {
-                    return full;
+                match self.attempt(next, nodes) {
+                    Attempt::Refuted(left) => nodes = left,
+                    other => return other,
                 }
             }
         }
-        None
+        Attempt::Refuted(nodes)
     }
 
     /// A full grid by the first digit left in each open cell, the cell with the fewest left first.

@@ -19,6 +19,8 @@ use Rattle.grading.specs.Completions.{those, completions}
 use Rattle.grading.specs.declared.search.Found.{Found}
 use Rattle.grading.specs.declared.branch.Settled.{Settled}
 use Rattle.grading.specs.declared.branch.Settled.the-variants.{Clash, Decided}
+use Rattle.grading.specs.declared.refute.Tried.{Tried}
+use Rattle.grading.specs.declared.refute.Tried.the-variants.{Refuted, Full, Spent}
 
 -- 81 zero bytes: what stands for no completion
 abbrev pub zeros : List ℕ
@@ -81,3 +83,9 @@ pub record Weighs (m m' : List ℕ) : Type 0 where
 abbrev pub WeighedOk : List ℕ → List ℕ → Settled → Type 0
 WeighedOk m m' Clash = left m ≡ []
 WeighedOk m m' (Decided d) = Weighs m m' × (d ≡ decided m')
+
+-- what an attempt to refute marks promises: where it does, they leave nothing
+abbrev pub TriedOk : List ℕ → Tried → Type 0
+TriedOk m (Refuted n) = left m ≡ []
+TriedOk m Full = Unit {0}
+TriedOk m Spent = Unit {0}

@@ -16,7 +16,7 @@ ghost use Rattle.clauses.specs.Shape.{IsGroup};
 ghost use Rattle.clauses.specs.declared.ClauseSet.the-variants.{Extended};
 ghost use Rattle.closure.specs.Marks.{decided as decisions};
 ghost use Rattle.inference.specs.Steps.{MarksOk};
-ghost use Rattle.grading.specs.Search.{left, WeighedOk};
+ghost use Rattle.grading.specs.Search.{left, WeighedOk, TriedOk};
 
 // How many groups there are: the cells, then each house for each digit.
 const GROUPS: usize = 324;
@@ -199,46 +199,97 @@ fn weigh(
     Settled::Decided(known)
 }
 
-// Whether the marks are shown to leave nothing. Where they are not, they become those of a full grid that they leave.
-pub(crate) fn refuted(marks: &mut [u8; 729], decided: usize, failures: &mut [u32; 729]) -> bool
+// What an attempt to refute marks comes to: they leave nothing, with what is left of the nodes allowed; they have become those of a full
+// grid; or the nodes are spent.
+pub(crate) enum Tried {
+    Refuted(u32),
+    Full,
+    Spent,
+}
+
+// An attempt with so many nodes.
+fn refute_within(
+    marks: &mut [u8; 729],
+    decided: usize,
+    failures: &mut [u32; 729],
+    nodes: u32,
+) -> Tried
     requires { ⌜ MarksOk Extended (now marks) × (decided ≡ decisions (now marks)) ⌝ }
-    ensures { λ r. ⌜ (r ≡ true → left (now (marks .entry)) ≡ List.[]) ⌝ }
+    ensures { λ r. ⌜ TriedOk (now (marks .entry)) r ⌝ }
 {
+    if nodes == 0 {
+        return Tried::Spent;
+    }
     let mut full = *marks;
     if dive(&mut full, decided) {
         *marks = full;
-        return false;
+        return Tried::Full;
     }
     let mut weights = [0u32; 729];
     let weighed = weigh(marks, decided, &mut weights, failures);
     match weighed {
-        Settled::Clash => true,
+        Settled::Clash => Tried::Refuted(nodes - 1),
         Settled::Decided(known) => {
             let i = lightest(&*marks, &weights, &*failures, GROUPS);
             if i == GROUPS {
-                return false;
+                return Tried::Full;
             }
             let group = group_at(i);
+            let mut rest = nodes - 1;
             let mut k = 0;
             while k < 9 {
                 let p = place(group, k);
                 if marks[p] == 1 {
-                    return false;
+                    return Tried::Spent;
                 }
                 let mut next = *marks;
                 let assumed = assume(&mut next, known, p);
                 match assumed {
                     Settled::Clash => {}
                     Settled::Decided(more) => {
-                        if !refuted(&mut next, more, failures) {
-                            *marks = next;
-                            return false;
+                        let tried = refute_within(&mut next, more, failures, rest);
+                        match tried {
+                            Tried::Refuted(n) => {
+                                rest = n;
+                            }
+                            Tried::Full => {
+                                *marks = next;
+                                return Tried::Full;
+                            }
+                            Tried::Spent => {
+                                return Tried::Spent;
+                            }
                         }
                     }
                 }
                 k += 1;
             }
-            true
+            Tried::Refuted(rest)
         }
     }
+}
+
+// Whether the marks are shown to leave nothing. Where they are not, they become those of a full grid that they leave, unless all attempts
+// are spent. Each attempt has twice the nodes of the one before, and goes by where that one failed.
+pub(crate) fn refuted(marks: &mut [u8; 729], decided: usize, failures: &mut [u32; 729]) -> bool
+    requires { ⌜ MarksOk Extended (now marks) × (decided ≡ decisions (now marks)) ⌝ }
+    ensures { λ r. ⌜ (r ≡ true → left (now (marks .entry)) ≡ List.[]) ⌝ }
+{
+    let mut nodes = 8u32;
+    while nodes < 16777216 {
+        let mut near = *marks;
+        let tried = refute_within(&mut near, decided, failures, nodes);
+        match tried {
+            Tried::Refuted(_) => {
+                return true;
+            }
+            Tried::Full => {
+                *marks = near;
+                return false;
+            }
+            Tried::Spent => {}
+        }
+        nodes *= 2;
+    }
+    false
 }

@@ -17,31 +17,31 @@ use Rattle.closure.specs.Closure.{With}
 use Rattle.closure.specs.Marks.{has, decided as decisions}
 use Rattle.closure.proofs.Marks.{decided-grows, decided-bounded}
 use Rattle.clauses.proofs.decode.place.Reads as place-reads
-use Rattle.grading.specs.Search.{left, Settles, SettledOk, Weighs, WeighedOk}
+use Rattle.grading.specs.Search.{left, Settles, SettledOk, Weighs, WeighedOk, TriedOk}
 use Rattle.grading.specs.declared.branch.Settled.the-variants.{Decided}
 use Rattle.grading.proofs.Settling.{not-marked}
 use Rattle.grading.proofs.Refuting.{Refuted, clash-refutes, none-refutes, group-refutes, weighs-none, not-refuted}
-use Rattle.grading.proofs.refute.refuted.Reads as refuted
-use Rattle.grading.proofs.refute.refuted.Kinds as refuted-kinds
-use Rattle.grading.proofs.refute.+refuted.Lts-refuted as lts
+use Rattle.grading.proofs.refute.refute_within.Reads as refute
+use Rattle.grading.proofs.refute.refute_within.Kinds as refute-kinds
+use Rattle.grading.proofs.refute.+refute_within.Lts-refute_within as lts
 use Rattle.grading.proofs.branch.assume.Reads as assume-reads
 use Rattle.grading.proofs.refute.dive.Reads as dive-reads
 use Rattle.grading.proofs.refute.group_at.Reads as group-at-reads
 use Rattle.grading.proofs.refute.lightest.Reads as lightest-reads
 use Rattle.grading.proofs.refute.weigh.Reads as weigh-reads
-use Rattle.grading.proofs.refute.+refuted.{statement}
-use Rattle.grading.proofs.refute.+refuted.Tie.{close}
+use Rattle.grading.proofs.refute.+refute_within.{statement}
+use Rattle.grading.proofs.refute.+refute_within.Tie.{close}
 
 -- the number of undecided variables falls
-abbrev μ-refuted : Measures 2 refuted-kinds.ps ℕ
-μ-refuted κs a = 729 - decisions (a .0 .now)
+abbrev μ-refute : Measures 2 refute-kinds.ps ℕ
+μ-refute κs a = 729 - decisions (a .0 .now)
 
 -- what a call is given at the measure t, and what a call below t asks
-abbrev refuted-at : ℕ → In 2 refuted-kinds.ps
-refuted-at t = and 2 refuted-kinds.ps (is 2 refuted-kinds.ps μ-refuted t) refuted.Pre
+abbrev refute-at : ℕ → In 2 refute-kinds.ps
+refute-at t = and 2 refute-kinds.ps (is 2 refute-kinds.ps μ-refute t) refute.Pre
 
-abbrev refuted-below : ℕ → In 2 refuted-kinds.ps
-refuted-below t = and 2 refuted-kinds.ps (falls 2 refuted-kinds.ps _<_ μ-refuted t) refuted.Pre
+abbrev refute-below : ℕ → In 2 refute-kinds.ps
+refute-below t = and 2 refute-kinds.ps (falls 2 refute-kinds.ps _<_ μ-refute t) refute.Pre
 
 -- what the callees ask and give
 abbrev calls : ℕ → lts.Claims
@@ -58,25 +58,25 @@ calls t = (
   place-reads.Learnt,
   assume-reads.Asked,
   assume-reads.Learnt,
-  refuted-below t,
-  refuted.Post,
+  refute-below t,
+  refute.Post,
 )
 
 -- the first k places of the group are refuted
 abbrev Inv : lts.InvT-loop
-Inv marks₀ decided failures₀ known i group k₀ marks failures k =
+Inv marks₀ decided failures₀ nodes known i group rest₀ k₀ marks failures rest k =
     (k ≤ 9) × Weighs marks₀ marks × (known ≡ decisions marks) × ((j : ℕ) → j < k → Refuted marks (placeOf group j))
 
 abbrev μ-loop : lts.MeasureT-loop
-μ-loop marks₀ decided failures₀ known i group k₀ marks failures k = 9 - k
+μ-loop marks₀ decided failures₀ nodes known i group rest₀ k₀ marks failures rest k = 9 - k
 
 -- where the group is chosen
-module _ (t : ℕ) (c : lts.After-group-at (calls t) (refuted-at t) refuted.Post Inv μ-loop) where
-  abbrev told : lts.After-weighed (calls t) (refuted-at t) refuted.Post Inv μ-loop
+module _ (t : ℕ) (c : lts.After-group-at (calls t) (refute-at t) refute.Post Inv μ-loop) where
+  abbrev told : lts.After-weighed (calls t) (refute-at t) refute.Post Inv μ-loop
   told = c .before .before .before .before .before .before .before
 
-  abbrev first : lts.Start (calls t) (refuted-at t) refuted.Post Inv μ-loop
-  first = told .before .before .before .before .before .before .before .before .before .before
+  abbrev first : lts.Start (calls t) (refute-at t) refute.Post Inv μ-loop
+  first = told .before .before .before .before .before .before .before .before .before .before .before
 
   -- the marks as they are weighed
   abbrev n : List ℕ
@@ -86,12 +86,12 @@ module _ (t : ℕ) (c : lts.After-group-at (calls t) (refuted-at t) refuted.Post
   weighed = subst (WeighedOk (first .args .marks .now) n) (told .weighed .given .1) (told .before .before .weigh .ensures)
 
 -- a place that is true ends the test
-not-true : (t : ℕ) (c : lts.After-next2 (calls t) (refuted-at t) refuted.Post Inv μ-loop) → T (has (c .before .before .before .before .before .before .loop .marks) (pos (suc (c .before .before .before .before .place .result)))) → ⊥
-not-true t c = not-marked _ _ (c .before .before .if3 .left)
+not-true : (t : ℕ) (c : lts.After-next2 (calls t) (refute-at t) refute.Post Inv μ-loop) → T (has (c .before .before .before .before .before .before .loop .marks) (pos (suc (c .before .before .before .before .place .result)))) → ⊥
+not-true t c = not-marked _ _ (c .before .before .if4 .left)
 
 -- where a place has been assumed
-module _ (t : ℕ) (c : lts.After-assume (calls t) (refuted-at t) refuted.Post Inv μ-loop) where
-  abbrev node : lts.After-group-at (calls t) (refuted-at t) refuted.Post Inv μ-loop
+module _ (t : ℕ) (c : lts.After-assume (calls t) (refute-at t) refute.Post Inv μ-loop) where
+  abbrev node : lts.After-group-at (calls t) (refute-at t) refute.Post Inv μ-loop
   node = c .before .before .before .before .before .before .before .before
 
   abbrev m : List ℕ
@@ -125,51 +125,52 @@ module _ (t : ℕ) (c : lts.After-assume (calls t) (refuted-at t) refuted.Post I
     more : decisions m < decisions next
     more = decided-grows m next (λ l y. assumed .0 .holds l (inl y)) (pos (suc p)) (c .before .before .before .before .before .place .ensures .1) (assumed .0 .holds (pos (suc p)) (inr refl)) (not-true t (c .before))
 
-loop-holds : (t : ℕ) → lts.Need-loop-holds (calls t) (refuted-at t) refuted.Post Inv μ-loop
+loop-holds : (t : ℕ) → lts.Need-loop-holds (calls t) (refute-at t) refute.Post Inv μ-loop
 loop-holds t c = (omega arith, weighs-none (n t c) (weighed t c .0 .marks), weighed t c .1, λ j h. absurd (omega (arith, h)))
 
-place-requires : (t : ℕ) → lts.Need-place-requires (calls t) (refuted-at t) refuted.Post Inv μ-loop
+place-requires : (t : ℕ) → lts.Need-place-requires (calls t) (refute-at t) refute.Post Inv μ-loop
 place-requires t c κs = (c .before .before .group-at .ensures, omega (arith, c .loop-test .taken))
 
-assume-requires : (t : ℕ) → lts.Need-assume-requires (calls t) (refuted-at t) refuted.Post Inv μ-loop
+assume-requires : (t : ℕ) → lts.Need-assume-requires (calls t) (refute-at t) refute.Post Inv μ-loop
 assume-requires t c κs =
     let l = c .before .before .before .before .before .before .loop in
     (l .inv .1 .marks, l .inv .2, c .before .before .before .before .place .ensures .1, not-true t c)
 
-refuted-requires : (t : ℕ) → lts.Need-refuted-requires (calls t) (refuted-at t) refuted.Post Inv μ-loop
+refuted-requires : (t : ℕ) → lts.Need-refute-within-requires (calls t) (refute-at t) refute.Post Inv μ-loop
 refuted-requires t c κs =
     let a = c .before .before .before .before .before in
     let w = c .before .before .before .assumed .given in
     let s = assumed t a (w .0 .0) (w .1) in
     (omega (arith, first t (node t a) .pre .0, weighed t (node t a) .0 .more, inv t a .1 .more, more t a (w .0 .0) (w .1), decided-bounded (next t a)), (s .0 .marks, s .1))
 
-loop-again : (t : ℕ) → lts.Need-loop-again (calls t) (refuted-at t) refuted.Post Inv μ-loop
+loop-again : (t : ℕ) → lts.Need-loop-again (calls t) (refute-at t) refute.Post Inv μ-loop
 loop-again t c =
     let a = c .before in
     let here =
     at-place t a (⊎-elim
     (λ w. clash-refutes (m t a) (p t a) (subst (SettledOk (Place t a) (next t a)) (w .1 .given .1) (a .assume .ensures)))
-    (λ w. none-refutes (m t a) (p t a) (next t a) (assumed t a (w .1 .given .0 .0) (w .1 .given .1) .0) (w .5 .ensures (not-false _ (w .6 .left)))) (c .match2 .came)) in (
+    (λ w. none-refutes (m t a) (p t a) (next t a) (assumed t a (w .1 .given .0 .0) (w .1 .given .1) .0) (subst (TriedOk (next t a)) (w .7 .given .1) (w .5 .ensures))) (c .match2 .came)) in (
       omega arith,
       inv t a .1,
       inv t a .2,
       λ j h. elim (decLt j (k t a)) [ yes l ↦ inv t a .3 j l | no f ↦ subst (λ x. Refuted (m t a) (placeOf (node t a .group-at .result) x)) (omega arith) here ],
     )
 
-returns-5 : (t : ℕ) → lts.Need-returns-5 (calls t) (refuted-at t) refuted.Post Inv μ-loop
-returns-5 t c e =
+returns-7 : (t : ℕ) → lts.Need-returns-7 (calls t) (refute-at t) refute.Post Inv μ-loop
+returns-7 t c =
     let w = c .before .before in
-    subst (WeighedOk (w .before .before .before .before .before .before .before .before .args .marks .now) (w .weigh .last .0)) (c .enum-told .given .1) (w .weigh .ensures)
+    subst (WeighedOk (w .before .before .before .before .before .before .before .before .before .args .marks .now) (w .weigh .last .0)) (c .enum-told .given .1) (w .weigh .ensures)
 
-returns-6 : (t : ℕ) → lts.Need-returns-6 (calls t) (refuted-at t) refuted.Post Inv μ-loop
-returns-6 t c e =
+returns-8 : (t : ℕ) → lts.Need-returns-8 (calls t) (refute-at t) refute.Post Inv μ-loop
+returns-8 t c =
     let l = c .before .loop in
     let g = c .before .before in
     weighed t g .0 .same ∙ l .inv .1 .same
     ∙ group-refutes (l .marks) (l .inv .1 .marks .marks) (g .group-at .result) (g .group-at .ensures) (λ j h. l .inv .3 j (omega (arith, l .inv .0, c .loop-test .left)))
 
-pub +refuted-spec : {M : Type 1} → statement M
-+refuted-spec = close μ-refuted λ t. lts.spec (calls t) (refuted-at t) refuted.Post Inv μ-loop
-    (λ c κs. search needs) (λ c. not-refuted) (λ c κs. search needs) (λ c. search needs) (λ c. search needs) (λ c κs. search needs) (λ c. not-refuted) (λ c κs. search needs)
-    (loop-holds t) (place-requires t) (λ c. search needs) (λ c. not-refuted) (assume-requires t) (λ c. search needs) (λ c. search needs) (refuted-requires t) (λ c. not-refuted)
-    (λ c. search needs) (λ c. search needs) (loop-again t) (returns-5 t) (returns-6 t)
+pub +refute-within-spec : {M : Type 1} → statement M
++refute-within-spec = close μ-refute λ t. lts.spec (calls t) (refute-at t) refute.Post Inv μ-loop
+    (λ c. search needs) (λ c κs. search needs) (λ c. search needs) (λ c κs. search needs) (λ c. search needs) (λ c. search needs) (λ c. search needs) (λ c κs. search needs)
+    (λ c. search needs) (λ c κs. search needs) (λ c. search needs) (loop-holds t) (place-requires t) (λ c. search needs) (λ c. search needs) (assume-requires t) (λ c. search needs)
+    (λ c. search needs) (refuted-requires t) (λ c. search needs) (λ c. search needs) (λ c. search needs) (λ c. search needs) (λ c. search needs) (λ c. search needs)
+    (λ c. search needs) (loop-again t) (returns-7 t) (returns-8 t)
