@@ -1,12 +1,15 @@
-//! Times the proved calls beside the plain ones in alternating repetitions, and prints the median
-//! of each with their ratio: the clause call over all numbers of both sets; jobs of each technique,
-//! searches and gradings on sets of grids; and the search that takes longest of those on grids that
-//! cost much. It checks first that both give equal answers; no figure makes it fail. Where qqwing is
-//! installed, the proved search stands beside it too. Last, the program that the environment names as
-//! GRADELIST grades files of lines, beside the reference's listing.
+//! Times the proved calls and prints a table of times, ours beside another program's, with their
+//! ratio. Beside plain Rust of the same steps, medians of alternating repetitions: the clause call
+//! over all numbers of both sets; jobs of each technique and their trials, searches and gradings on
+//! sets of grids; and the search that takes longest of those on grids that cost much. It checks first
+//! that both give equal answers; no figure makes it fail. Searches stand beside qqwing, and beside
+//! cadical, which gets a formula to find a completion and one with that blocked, where these are
+//! installed; their start, their reading and their output count. Last, the program that the
+//! environment names as GRADELIST grades files of lines, beside the reference's listing.
 
 use reference::cases::{bad, slow, Grid, Random, AI_ESCARGOT, FIGURE_FIVE};
 use reference::clauses::clause_set;
+use reference::dimacs::{blocking, write};
 use reference::grid::{CELLS, VARIABLES};
 use reference::listing::gradelist;
 use reference::order::default_order;
@@ -36,7 +39,30 @@ type SearchCall = fn(&[u8], &mut [u8], &mut [u8]) -> Result<u8, Refusal>;
 /// count of trials.
 type Answer = Result<(u8, u32), Refusal>;
 
+/// A row of the table, its times in nanoseconds.
+fn row(what: &str, each: &str, ours: f64, beside: &str, theirs: f64) {
+    println!(
+        "{what:<36} {each:<7} {:>10} {:>12.1}   {beside:<9} {:>10} {:>7.2}",
+        shown(ours),
+        1e9 / ours,
+        shown(theirs),
+        ours / theirs
+    );
+}
+
+fn shown(nanoseconds: f64) -> String {
+    match nanoseconds {
+        less if less < 1e3 => format!("{less:.1} ns"),
+        less if less < 1e6 => format!("{:.2} µs", less / 1e3),
+        more => format!("{:.2} ms", more / 1e6),
+    }
+}
+
 fn main() -> Result<(), String> {
+    println!(
+        "{:<36} {:<7} {:>10} {:>12}   {:<9} {:>10} {:>7}",
+        "what", "each", "ours", "a second", "beside", "theirs", "ratio"
+    );
     clauses()?;
     let mut random = Random(5);
     let figure_five = FIGURE_FIVE.map(|grid| *grid);
@@ -59,6 +85,7 @@ fn main() -> Result<(), String> {
     for (name, grids) in [("published", &published), ("generated", &generated)] {
         searches(name, grids)?;
         beside_qqwing(name, grids).map_err(|error| format!("qqwing: {error}"))?;
+        beside_cadical(name, grids).map_err(|error| format!("cadical: {error}"))?;
         gradings(name, grids)?;
     }
     let bad = [bad(), slow()].concat();
@@ -102,12 +129,7 @@ fn clauses() -> Result<(), String> {
         || clause_time(sizes, proved::packed_clause),
         || clause_time(sizes, plain::clause),
     );
-    println!(
-        "bench: {} clause calls a repetition, median of {REPETITIONS}: proved {proved:.2} ns, \
-         plain {plain:.2} ns a call, ratio {:.2}",
-        ROUNDS * sizes.iter().sum::<u32>() as usize,
-        proved / plain
-    );
+    row("clauses of both sets", "call", proved, "plain", plain);
     Ok(())
 }
 
@@ -133,8 +155,6 @@ fn clause_time(sizes: [u32; 2], call: impl Fn(u32, u32, &mut [i16]) -> u64) -> f
 
 /// The times of a call on some grids, in nanoseconds a call.
 struct Times {
-    /// Calls a repetition.
-    calls: usize,
     proved: f64,
     plain: f64,
     /// Trials a call.
@@ -168,7 +188,6 @@ fn times(
         || time(grids, length, &plain, rounds),
     );
     Ok(Times {
-        calls: rounds * grids.len(),
         proved,
         plain,
         trials: f64::from(trials) / grids.len() as f64,
@@ -196,33 +215,24 @@ fn time(
 fn jobs(name: &str, grids: &[Grid], technique: u32) -> Result<(), String> {
     let order = default_order();
     let name = format!("technique {technique}, {name}");
-    let Times {
-        calls,
-        proved,
-        plain,
-        trials,
-    } = times(
+    let times = times(
         &name,
         grids,
         VARIABLES,
         |grid, marks| proved::job(grid, technique, &order, u32::MAX, marks),
         |grid, marks| plain_job::job(grid, technique, &order, u32::MAX, marks),
     )?;
-    print!(
-        "bench: {name}, {calls} jobs a repetition, median of {REPETITIONS}: proved {:.2} µs, plain \
-         {:.2} µs a job, ratio {:.2}",
-        proved / 1e3,
-        plain / 1e3,
-        proved / plain
-    );
-    if trials > 0.0 {
-        print!(
-            "; proved {:.0} ns, plain {:.0} ns a trial",
-            proved / trials,
-            plain / trials
+    let (proved, plain) = (times.proved, times.plain);
+    row(&name, "job", proved, "plain", plain);
+    if times.trials > 0.0 {
+        row(
+            &name,
+            "trial",
+            proved / times.trials,
+            "plain",
+            plain / times.trials,
         );
     }
-    println!();
     Ok(())
 }
 
@@ -241,7 +251,7 @@ fn searches(name: &str, grids: &[Grid]) -> Result<(), String> {
         |grid, buffer| searched(proved::search, grid, buffer),
         |grid, buffer| searched(plain_search::search, grid, buffer),
     )?;
-    print_a_second(&name, &times);
+    row(&name, "search", times.proved, "plain", times.plain);
     Ok(())
 }
 
@@ -256,21 +266,8 @@ fn gradings(name: &str, grids: &[Grid]) -> Result<(), String> {
         |grid, completion| proved::grade(grid, &order, u32::MAX, completion),
         |grid, completion| plain_search::grade(grid, &order, u32::MAX, completion),
     )?;
-    print_a_second(&name, &times);
+    row(&name, "grading", times.proved, "plain", times.plain);
     Ok(())
-}
-
-fn print_a_second(name: &str, times: &Times) {
-    println!(
-        "bench: {name}, {} a repetition, median of {REPETITIONS}: proved {:.1}, plain {:.1} a \
-         second ({:.2} ms and {:.2} ms each), ratio of the times {:.2}",
-        times.calls,
-        1e9 / times.proved,
-        1e9 / times.plain,
-        times.proved / 1e6,
-        times.plain / 1e6,
-        times.proved / times.plain
-    );
 }
 
 /// The nanoseconds of one proved search, over all grids in some rounds.
@@ -279,24 +276,23 @@ fn search_time(grids: &[Grid], rounds: usize) -> f64 {
     time(grids, 2 * CELLS, search, rounds)
 }
 
-/// The proved search and `qqwing --solve` on the same grids, as often as fills qqwing's time. Its
-/// start, its reading and its output count too. Of several completions it gives any one.
+/// The proved search and `qqwing --solve` on the same grids, as often as fills qqwing's time. Of
+/// several completions it gives any one.
 fn beside_qqwing(name: &str, grids: &[Grid]) -> io::Result<()> {
     if Command::new("qqwing").arg("--version").output().is_err() {
-        println!("bench: searches, {name}: qqwing is not installed");
+        println!("searches, {name}: qqwing is not installed");
         return Ok(());
     }
     let once = qqwing_time(grids, 1)?;
     let rounds = (QQWING / (once * grids.len() as f64)).max(1.0) as usize;
     let qqwing = qqwing_time(grids, rounds)?;
     let proved = search_time(grids, rounds);
-    println!(
-        "bench: searches, {name}, {} in one run: proved {:.1}, qqwing --solve {:.1} a second, ratio \
-         of the times {:.2}",
-        rounds * grids.len(),
-        1e9 / proved,
-        1e9 / qqwing,
-        proved / qqwing
+    row(
+        &format!("searches, {name}"),
+        "search",
+        proved,
+        "qqwing",
+        qqwing,
     );
     Ok(())
 }
@@ -320,6 +316,42 @@ fn qqwing_time(grids: &[Grid], rounds: usize) -> io::Result<f64> {
     Ok(time / (rounds * grids.len()) as f64)
 }
 
+/// The proved search and cadical on the same grids.
+fn beside_cadical(name: &str, grids: &[Grid]) -> io::Result<()> {
+    if Command::new("cadical").arg("--version").output().is_err() {
+        println!("searches, {name}: cadical is not installed");
+        return Ok(());
+    }
+    let path = env::temp_dir().join(format!("reference-bench-{}", process::id()));
+    let mut cadical = 0.0;
+    for grid in grids {
+        let mut first = [0; CELLS];
+        let found = proved::search(grid, &mut first, &mut [0; CELLS]);
+        let blocked = [blocking(&first)];
+        let formulas = [&[][..], &blocked[..]];
+        for added in formulas.into_iter().take(1 + usize::from(found != Ok(0))) {
+            let formula = write(2, grid, added).map_err(|_| io::ErrorKind::InvalidInput)?;
+            fs::write(&path, formula)?;
+            let start = Instant::now();
+            Command::new("cadical")
+                .arg("-q")
+                .arg(&path)
+                .stdout(Stdio::null())
+                .status()?;
+            cadical += start.elapsed().as_nanos() as f64;
+        }
+    }
+    fs::remove_file(&path)?;
+    row(
+        &format!("searches, {name}"),
+        "search",
+        search_time(grids, 1),
+        "cadical",
+        cadical / grids.len() as f64,
+    );
+    Ok(())
+}
+
 /// Lines of which the reference makes a listing too.
 const LINES: usize = 100;
 
@@ -327,7 +359,7 @@ const LINES: usize = 100;
 /// the reference's listing.
 fn listings(grids: &[Grid]) -> io::Result<()> {
     let Ok(program) = env::var("GRADELIST") else {
-        println!("bench: gradelist: the environment names no program");
+        println!("gradelist: the environment names no program");
         return Ok(());
     };
     let path = env::temp_dir().join(format!("reference-bench-{}", process::id()));
@@ -338,21 +370,18 @@ fn listings(grids: &[Grid]) -> io::Result<()> {
     for count in [LINES, 10 * LINES, 100 * LINES] {
         fs::write(&path, lines(count))?;
         let (seconds, memory) = program_time(&program, &path)?;
-        print!(
-            "bench: gradelist, published, {count} lines: {:.1} a second, {memory} kB at most",
+        println!(
+            "gradelist, published, {count} lines: {:.2} s, {:.1} lines a second, {memory} kB at most",
+            seconds,
             count as f64 / seconds
         );
         if count == LINES {
             let start = Instant::now();
             black_box(gradelist(&lines(count)));
-            let reference = start.elapsed().as_secs_f64();
-            print!(
-                "; reference {:.1} a second, ratio of the times {:.4}",
-                count as f64 / reference,
-                seconds / reference
-            );
+            let reference = start.elapsed().as_nanos() as f64 / count as f64;
+            let ours = 1e9 * seconds / count as f64;
+            row("gradelist, published", "line", ours, "reference", reference);
         }
-        println!();
     }
     fs::remove_file(&path)
 }
