@@ -86,10 +86,10 @@ impl Search {
         }
     }
 
-    /// None where a state leaves nothing, else a full grid that it leaves. Each attempt has twice the
-    /// nodes of the one before.
+    /// None where a state leaves nothing, else a full grid that it leaves. Each attempt has a third
+    /// more nodes than the one before.
     fn tested(&mut self, state: State) -> Option<State> {
-        let mut nodes = 8;
+        let mut nodes = 12;
         loop {
             if self.closures >= self.most_closures {
                 return None;
@@ -97,7 +97,7 @@ impl Search {
             match self.attempt(state, nodes) {
                 Attempt::Refuted(_) => return None,
                 Attempt::Full(full) => return Some(full),
-                Attempt::Spent => nodes *= 2,
+                Attempt::Spent => nodes += nodes / 3,
             }
         }
     }
@@ -113,8 +113,11 @@ impl Search {
             return Attempt::Full(full);
         }
         let mut weights = [0; 729];
-        for place in 0..state.marks.len() {
-            if state.marks[place] == 0 {
+        for least in [1, 0] {
+            for place in 0..state.marks.len() {
+                if state.marks[place] != 0 || self.failures[place] < least {
+                    continue;
+                }
                 let literal = place as i16 + 1;
                 if let Some(next) = self.closed_with(&state, literal) {
                     weights[place] = weight(next.decided - state.decided);

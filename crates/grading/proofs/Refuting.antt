@@ -84,3 +84,7 @@ weighs-none m ok = record { marks = ok; more = omega arith; same = refl }
 
 pub weighs-again : (m t u : List ℕ) → Weighs m t → Weighs t u → Weighs m u
 weighs-again m t u v w = record { marks = w .marks; more = omega (arith, v .more, w .more); same = v .same ∙ w .same }
+
+pub weighed-again : (m t u : List ℕ) (r : Settled) → Weighs m t → WeighedOk t u r → WeighedOk m u r
+weighed-again m t u Clash v e = v .same ∙ e
+weighed-again m t u (Decided d) v w = (weighs-again m t u v (w .0), w .1)

@@ -171,7 +171,38 @@ fn counted(failures: u32) -> u32 {
     }
 }
 
-// A trial of each place. It ends at a place that can be neither true nor false.
+// A trial of each place with at least so many failures. It ends at a place that can be neither true nor false.
+fn weigh_from(
+    marks: &mut [u8; 729],
+    decided: usize,
+    weights: &mut [u32; 729],
+    failures: &mut [u32; 729],
+    least: u32,
+) -> Settled
+    requires { ⌜ MarksOk Extended (now marks) × (decided ≡ decisions (now marks)) ⌝ }
+    ensures { λ r. ⌜ WeighedOk (now (marks .entry)) (now (marks .exit)) r ⌝ }
+{
+    let mut known = decided;
+    let mut p = 0;
+    while p < 729 {
+        if least <= failures[p] {
+            let weighed = weigh_place(marks, known, weights, p);
+            match weighed {
+                Settled::Clash => {
+                    failures[p] = counted(failures[p]);
+                    return Settled::Clash;
+                }
+                Settled::Decided(more) => {
+                    known = more;
+                }
+            }
+        }
+        p += 1;
+    }
+    Settled::Decided(known)
+}
+
+// A trial of each place: first of those at which the test has failed before.
 fn weigh(
     marks: &mut [u8; 729],
     decided: usize,
@@ -181,22 +212,11 @@ fn weigh(
     requires { ⌜ MarksOk Extended (now marks) × (decided ≡ decisions (now marks)) ⌝ }
     ensures { λ r. ⌜ WeighedOk (now (marks .entry)) (now (marks .exit)) r ⌝ }
 {
-    let mut known = decided;
-    let mut p = 0;
-    while p < 729 {
-        let weighed = weigh_place(marks, known, weights, p);
-        match weighed {
-            Settled::Clash => {
-                failures[p] = counted(failures[p]);
-                return Settled::Clash;
-            }
-            Settled::Decided(more) => {
-                known = more;
-            }
-        }
-        p += 1;
+    let first = weigh_from(marks, decided, weights, failures, 1);
+    match first {
+        Settled::Clash => Settled::Clash,
+        Settled::Decided(known) => weigh_from(marks, known, weights, failures, 0),
     }
-    Settled::Decided(known)
 }
 
 // What an attempt to refute marks comes to: they leave nothing, with what is left of the nodes allowed; they have become those of a full
@@ -270,12 +290,12 @@ fn refute_within(
 }
 
 // Whether the marks are shown to leave nothing. Where they are not, they become those of a full grid that they leave, unless all attempts
-// are spent. Each attempt has twice the nodes of the one before, and goes by where that one failed.
+// are spent. Each attempt has a third more nodes than the one before, and goes by where that one failed.
 pub(crate) fn refuted(marks: &mut [u8; 729], decided: usize, failures: &mut [u32; 729]) -> bool
     requires { ⌜ MarksOk Extended (now marks) × (decided ≡ decisions (now marks)) ⌝ }
     ensures { λ r. ⌜ (r ≡ true → left (now (marks .entry)) ≡ List.[]) ⌝ }
 {
-    let mut nodes = 8u32;
+    let mut nodes = 12u32;
     while nodes < 16777216 {
         let mut near = *marks;
         let tried = refute_within(&mut near, decided, failures, nodes);
@@ -289,7 +309,7 @@ pub(crate) fn refuted(marks: &mut [u8; 729], decided: usize, failures: &mut [u32
             }
             Tried::Spent => {}
         }
-        nodes *= 2;
+        nodes += nodes / 3;
     }
     false
 }

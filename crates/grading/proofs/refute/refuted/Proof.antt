@@ -12,7 +12,7 @@ use Rattle.grading.proofs.refute.refuted.Statement.{statement}
 use Rattle.grading.proofs.refute.refuted.Tie as tie
 
 abbrev Inv-loop : tie.InvT-loop
-Inv-loop marks₀ decided failures₀ nodes₀ marks failures nodes = (8 ≤ nodes) × MarksOk Extended marks × (decided ≡ decisions marks) × (left marks₀ ≡ left marks)
+Inv-loop marks₀ decided failures₀ nodes₀ marks failures nodes = (12 ≤ nodes) × MarksOk Extended marks × (decided ≡ decisions marks) × (left marks₀ ≡ left marks)
 
 abbrev μ-loop : tie.MeasureT-loop
 μ-loop marks₀ decided failures₀ nodes₀ marks failures nodes = 16777216 - nodes
