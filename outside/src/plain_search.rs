@@ -2,8 +2,8 @@
 //! the proved calls beside them, and `hunt` looks for grids that cost the search most. The search
 //! takes the unit closure over the extended set, and branches on the first open cell with its digits
 //! rising, so completions come in byte order. A branch is entered unless a test finds that it leaves
-//! nothing. The test first dives for a full grid. Else it tries each place, notes what the trial
-//! decides, and branches on the group that promises the smallest tree; it starts again where that is
+//! nothing. The test first dives for a full grid. Else it tries each place, those where it has failed
+//! before first, notes what the trial decides, and branches on the group that promises the smallest tree; it starts again where that is
 //! too large. A full grid that it comes upon is kept as a guess, and a branch that the guess agrees
 //! with needs no test.
 
