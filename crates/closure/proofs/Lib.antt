@@ -4,6 +4,7 @@ pub mod Tally
 pub mod Marks
 pub mod Clauses
 pub mod Propagation
+pub mod Trials
 pub mod Job
 pub mod Ceiling
 pub mod Order

@@ -84,7 +84,7 @@ has-mark m (negsuc j) v new (pos (suc i)) = put-byte m j 2 i 1 (λ e. absurd (ne
 has-mark m (negsuc j) v new (negsuc i) = put-byte m j 2 i 2 (λ e. refl) ((λ z. cc), λ e. ((cc), (cc)))
 
 -- the place decides its variable
-abbrev decidedAt : List ℕ → ℕ → Bool
+abbrev pub decidedAt : List ℕ → ℕ → Bool
 decidedAt m k = eqb (getD m k 0) 1 || eqb (getD m k 0) 2
 
 decided-none : (n : ℕ) → decidedIn n [] ≡ 0
@@ -92,7 +92,7 @@ unfolding decidedIn
 decided-none zero = refl
 decided-none (suc n) = refl
 
-decided-tally : (n : ℕ) (m : List ℕ) → decidedIn n m ≡ tally n (decidedAt m)
+pub decided-tally : (n : ℕ) (m : List ℕ) → decidedIn n m ≡ tally n (decidedAt m)
 unfolding decidedIn
 decided-tally zero m = unfold total in refl
 decided-tally (suc n) [] = omega (arith, tally-first n (decidedAt []), decided-none n, decided-tally n [])
@@ -103,7 +103,7 @@ pub or-iff : (a b : Bool) → T (a || b) ↔ (T a ⊎ T b)
 or-iff true b = (inl, λ x. tt)
 or-iff false b = (inr, ⊎-elim absurd (λ y. y))
 
-place-iff : (m : List ℕ) (k : ℕ) → T (decidedAt m k) ↔ (T (has m (pos (suc k))) ⊎ T (has m (negsuc k)))
+pub place-iff : (m : List ℕ) (k : ℕ) → T (decidedAt m k) ↔ (T (has m (pos (suc k))) ⊎ T (has m (negsuc k)))
 unfolding has
 place-iff m k = or-iff (eqb (getD m k 0) 1) (eqb (getD m k 0) 2)
 
@@ -178,6 +178,10 @@ unfolding mark
 is-marks-mark m (pos zero) i v = absurd v
 is-marks-mark m (pos (suc k)) i v = is-marks-put m k 1 i v (omega arith)
 is-marks-mark m (negsuc k) i v = is-marks-put m k 2 i v (omega arith)
+
+-- a marked literal decides a variable
+pub decided-some : (m : List ℕ) (l : ℤ) → Literal l → T (has m l) → 1 ≤ decided m
+decided-some m l v t = omega (arith, decided-grows blank m (λ x u. absurd (has-blank x u)) l v t (has-blank l))
 
 -- past the last place nothing is marked
 pub has-literal : (m : List ℕ) (l : ℤ) → IsMarks m → T (has m l) → Literal l

@@ -4,7 +4,7 @@ use mathlib.Core.Path.{_≡_, refl, sym, subst, ap, _∙_}
 use mathlib.Core.Logic.{_↔_}
 use mathlib.Core.Bool.{cond}
 use mathlib.Core.List.{List, List·Memᴰ}
-use Prim.Native.Nat.{ℕ}
+use Prim.Native.Nat.{ℕ, suc, _+_, _*_, _≤_}
 use native.Mathlib.Omega.{arith}
 use lib.Dec.{eqb}
 use lib.IntN.{ℤ, pos}
@@ -13,11 +13,14 @@ use Rattle.clauses.specs.Literal.{Literal}
 use Rattle.clauses.specs.Clauses.{clausesOf}
 use Rattle.clauses.specs.Models.{givens}
 use Rattle.clauses.proofs.Members.{place-of, given-literal}
+use Rattle.closure.specs.Sets.{Holds}
+use Rattle.closure.specs.Marks.{has, decided}
 use Rattle.closure.specs.Job.{End, solved, opened, stopped, contradiction, jobEnd, countOf, marksOf, outcomeOf}
+use Rattle.closure.proofs.Clauses.{NoneTwice}
 use Rattle.closure.proofs.Job.{JobOk, job-ok}
 use Rattle.closure.proofs.Order.{order-covers}
 use Rattle.closure.proofs.ClauseSets.{well-formed}
-use Rattle.inference.specs.Order.{orderCheck, defaultCeiling}
+use Rattle.inference.specs.Order.{orderCheck}
 use Rattle.inference.specs.Call.{outcomeNumber, Given, finished, jobOf}
 use Rattle.demands.specs.Jobs.{Ran, RulesOf, IsGiven}
 use Rattle.inference.specs.declared.job.JobAnswer.the-variants.{Finished}
@@ -25,21 +28,34 @@ use Rattle.inference.specs.declared.job.Outcome.{Outcome}
 use Rattle.inference.specs.declared.job.Outcome.the-variants.{Solved, Open, Stopped, Contradiction}
 use Rattle.inference.proofs.Orders.{accepted-order}
 
--- an order that is accepted has just the literals
-accepted-covers : (o : List ℤ) → orderCheck o ≡ Accepted → (l : ℤ) → Literal l ↔ List·Memᴰ l o
-accepted-covers o e =
-    let a = accepted-order o e in
-    order-covers o (a .0)
-    (λ l m. let w = place-of (pos 0) o m in subst Literal (w .2) (a .1 (w .0) (omega (arith, a .0, w .1))))
-    (λ i j x y q. a .2 i j x (omega (arith, a .0)) q)
+module _ (o : List ℤ) (e : orderCheck o ≡ Accepted) where
+  -- an order that is accepted has no literal twice,
+  accepted-once : NoneTwice o
+  accepted-once i j x y q = let a = accepted-order o e in a .2 i j x (omega (arith, a .0)) q
+
+  -- and just the literals
+  accepted-covers : (l : ℤ) → Literal l ↔ List·Memᴰ l o
+  accepted-covers =
+      let a = accepted-order o e in
+      order-covers o (a .0)
+      (λ l m. let w = place-of (pos 0) o m in subst Literal (w .2) (a .1 (w .0) (omega (arith, a .0, w .1)))) accepted-once
 
 -- the end of a job
 abbrev pub endOf : Ran → End
 endOf r = jobEnd (clausesOf (r .technique .set)) (r .ceiling) (r .technique .trials) (r .order) (givens (r .grid))
 
--- it is as it should be, and what the job gave back is read off it
+-- it is as it should be: where the givens leave at most u variables undecided, it makes at most u (u + 1) trials
+pub ran-ok : (r : Ran) (u : ℕ) → u ≤ 729 → ((m : List ℕ) → Holds (IsGiven (r .grid)) (has m) → 729 ≤ u + decided m)
+    → JobOk (RulesOf (r .technique)) (IsGiven (r .grid)) (r .ceiling) (u * suc u) (endOf r)
+ran-ok r =
+    let t = r .technique in
+    let o = r .order in
+    job-ok (clausesOf (t .set)) (well-formed (t .set)) (r .ceiling) (t .trials) o (accepted-covers o (r .order-accepted)) (accepted-once o (r .order-accepted))
+    (givens (r .grid)) (given-literal (r .grid))
+
+-- what the job gave back is read off it
 pub record Ended (r : Ran) : Type 0 where
-  pub ok : JobOk (RulesOf (r .technique)) (IsGiven (r .grid)) defaultCeiling (endOf r)
+  pub ok : JobOk (RulesOf (r .technique)) (IsGiven (r .grid)) (r .ceiling) (729 * 730) (endOf r)
   pub outcome : outcomeOf (endOf r) ≡ outcomeNumber (r .outcome)
   pub count : countOf (endOf r) ≡ r .count
   pub marks : marksOf (endOf r) ≡ r .marks
@@ -59,17 +75,8 @@ end-told (contradiction k) a n m e = answer-parts e
 pub ran-ended : (r : Ran) → Ended r
 unfolding jobOf
 ran-ended r =
-    let t = r .technique in
-    let o = r .order in
-    let k = job-ok (clausesOf (t .set)) (well-formed (t .set)) (r .ceiling) (t .trials) o (accepted-covers o (r .order-accepted))
-    (givens (r .grid)) (given-literal (r .grid)) in
     let a = end-told (endOf r) (r .outcome) (r .count) (r .marks) (r .gave) in
-    record {
-      ok = record { end = k .end; count = omega (arith, k .count, accepted-order o (r .order-accepted) .0); marks = k .marks };
-      outcome = a .0;
-      count = a .1;
-      marks = a .2;
-    }
+    record { ok = ran-ok r 729 (omega arith) (λ m h. omega arith); outcome = a .0; count = a .1; marks = a .2 }
 
 -- the outcome of a number
 abbrev outcomeAt : ℕ → Outcome
