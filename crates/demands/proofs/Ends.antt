@@ -23,6 +23,7 @@ use Rattle.closure.proofs.ClauseSets.{well-formed}
 use Rattle.inference.specs.Order.{orderCheck}
 use Rattle.inference.specs.Call.{outcomeNumber, Given, finished, jobOf}
 use Rattle.demands.specs.Jobs.{Ran, RulesOf, IsGiven}
+use Rattle.inference.specs.declared.technique.Technique.{Technique}
 use Rattle.inference.specs.declared.job.JobAnswer.the-variants.{Finished}
 use Rattle.inference.specs.declared.job.Outcome.{Outcome}
 use Rattle.inference.specs.declared.job.Outcome.the-variants.{Solved, Open, Stopped, Contradiction}
@@ -40,20 +41,16 @@ module _ (o : List ℤ) (e : orderCheck o ≡ Accepted) where
       order-covers o (a .0)
       (λ l m. let w = place-of (pos 0) o m in subst Literal (w .2) (a .1 (w .0) (omega (arith, a .0, w .1)))) accepted-once
 
+  -- a job ends as it should: where its givens leave at most u variables undecided, it makes at most u (u + 1) trials
+  pub end-ok : (t : Technique) (g : List ℕ) (c u : ℕ) → u ≤ 729 → ((m : List ℕ) → Holds (IsGiven g) (has m) → 729 ≤ u + decided m)
+      → JobOk (RulesOf t) (IsGiven g) c (u * suc u) (jobEnd (clausesOf (t .set)) c (t .trials) o (givens g))
+  end-ok t g c = job-ok (clausesOf (t .set)) (well-formed (t .set)) c (t .trials) o accepted-covers accepted-once (givens g) (given-literal g)
+
 -- the end of a job
 abbrev pub endOf : Ran → End
 endOf r = jobEnd (clausesOf (r .technique .set)) (r .ceiling) (r .technique .trials) (r .order) (givens (r .grid))
 
--- it is as it should be: where the givens leave at most u variables undecided, it makes at most u (u + 1) trials
-pub ran-ok : (r : Ran) (u : ℕ) → u ≤ 729 → ((m : List ℕ) → Holds (IsGiven (r .grid)) (has m) → 729 ≤ u + decided m)
-    → JobOk (RulesOf (r .technique)) (IsGiven (r .grid)) (r .ceiling) (u * suc u) (endOf r)
-ran-ok r =
-    let t = r .technique in
-    let o = r .order in
-    job-ok (clausesOf (t .set)) (well-formed (t .set)) (r .ceiling) (t .trials) o (accepted-covers o (r .order-accepted)) (accepted-once o (r .order-accepted))
-    (givens (r .grid)) (given-literal (r .grid))
-
--- what the job gave back is read off it
+-- it is as it should be, and what the job gave back is read off it
 pub record Ended (r : Ran) : Type 0 where
   pub ok : JobOk (RulesOf (r .technique)) (IsGiven (r .grid)) (r .ceiling) (729 * 730) (endOf r)
   pub outcome : outcomeOf (endOf r) ≡ outcomeNumber (r .outcome)
@@ -76,7 +73,7 @@ pub ran-ended : (r : Ran) → Ended r
 unfolding jobOf
 ran-ended r =
     let a = end-told (endOf r) (r .outcome) (r .count) (r .marks) (r .gave) in
-    record { ok = ran-ok r 729 (omega arith) (λ m h. omega arith); outcome = a .0; count = a .1; marks = a .2 }
+    record { ok = end-ok (r .order) (r .order-accepted) (r .technique) (r .grid) (r .ceiling) 729 (omega arith) (λ m h. omega arith); outcome = a .0; count = a .1; marks = a .2 }
 
 -- the outcome of a number
 abbrev outcomeAt : ℕ → Outcome

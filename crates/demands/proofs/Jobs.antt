@@ -121,7 +121,7 @@ unit-start cs c o (closed m) = go (isFull m)
     go true = (refl, λ q. omega arith)
     go false = (refl, λ q. omega arith)
 
-unit-end : (cs : List Clause) (c : ℕ) (o ls : List ℤ) → (countOf (jobEnd cs c false o ls) ≡ 0) × (outcomeOf (jobEnd cs c false o ls) ≡ 3 → ⊥)
+pub unit-end : (cs : List Clause) (c : ℕ) (o ls : List ℤ) → (countOf (jobEnd cs c false o ls) ≡ 0) × (outcomeOf (jobEnd cs c false o ls) ≡ 3 → ⊥)
 unfolding jobEnd
 unit-end cs c o ls = unit-start cs c o (bind (join blank ls) (unitClosure cs))
 

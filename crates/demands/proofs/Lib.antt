@@ -8,3 +8,4 @@ pub mod GradeCalls
 pub mod Reports
 pub mod GradingsCompared
 pub mod DemandThree
+pub mod NeverStopped

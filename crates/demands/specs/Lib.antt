@@ -3,3 +3,4 @@ pub mod Batches
 pub mod Searches
 pub mod Gradings
 pub mod DemandThree
+pub mod NeverStopped
