@@ -132,7 +132,7 @@ module _ (first second : Grading) (given : HasGivens (first .grid) (second .grid
       go (contradiction n) (contradiction n') w r l h d = r (t + n) (k + n') h d
 
 -- an answer's parts
-answer-parts : {v w t s : ℕ} {a b : List ℕ} → _≡_ {A = Given} (Graded v t, a) (Graded w s, b) → (v ≡ w) × (a ≡ b)
+pub answer-parts : {v w t s : ℕ} {a b : List ℕ} → _≡_ {A = Given} (Graded v t, a) (Graded w s, b) → (v ≡ w) × (a ≡ b)
 answer-parts e = let f = ap (λ p. p .0) e in (cc, ap (λ p. p .1) e)
 
 -- a grading with one completion
@@ -141,13 +141,13 @@ pub record One (r : Grading) : Type 0 where
   pub verdict : r .verdict ≡ rateFrom (r .grid) (r .order) (r .ceiling) stages 0 .verdict
 
 by-cases : (r : Grading) (bs : List (List ℕ)) → bs ≡ completions (r .grid)
-    → gradeBy bs (λ u. rateFrom (r .grid) (r .order) (r .ceiling) stages 0) ≡ (Graded (r .verdict) (r .trials), r .completion) → 1 ≤ r .verdict → r .verdict ≤ 6 → One r
+    → gradeBy bs (λ u. rateFrom (r .grid) (r .order) (r .ceiling) stages 0) ≡ (Graded (r .verdict) (r .trials), r .completion) → 1 ≤ r .verdict → r .verdict ≤ 5 → One r
 by-cases r [] e q low high = absurd (let z = answer-parts q .0 in omega (arith, z))
 by-cases r (b ∷ []) e q low high = record { completion = sym e ∙ ap (λ x. x ∷ []) (answer-parts q .1); verdict = sym (answer-parts q .0) }
 by-cases r (a ∷ b ∷ bs) e q low high = absurd (let z = answer-parts q .0 in omega (arith, z))
 
--- a verdict from 1 to 6, or one completion, tells of it
-pub by-verdict : (r : Grading) → 1 ≤ r .verdict → r .verdict ≤ 6 → One r
+-- a verdict from 1 to 5, or one completion, tells of it
+by-verdict : (r : Grading) → 1 ≤ r .verdict → r .verdict ≤ 5 → One r
 unfolding gradeOf
 by-verdict r = by-cases r (completions (r .grid)) refl (r .gave)
 
@@ -172,7 +172,7 @@ climbs = (omega arith, (omega arith, (omega arith, (omega arith, tt))), (omega a
 
 pub of-gradings : OfGradings
 of-gradings first second (low, high) given (b, legal) whole =
-    let one = by-verdict first low (omega arith) in
+    let one = by-verdict first low high in
     let o = completions-in-order (first .grid) in
     let p = completions-in-order (second .grid) in
     let only : (x : List ℕ) → Legal (second .grid) x → x ≡ first .completion =

@@ -2,6 +2,7 @@
 -- given: each technique starts with a variable decided. It makes at most 728 · 729 trials then, or none if it has no trials, and two have trials.
 -- Assumes nothing.
 use mathlib.Core.Path.{_≡_, refl, ap, sym, subst, _∙_}
+use mathlib.Core.Logic.{_⊎_, inl, inr, ⊎-elim}
 use mathlib.Core.Bool.{Bool, true, false}
 use mathlib.Core.List.{List, [], _∷_, _++_, List·Memᴰ, List·Memᴰ·eq-of-singleton}
 use Prim.Native.Nat.{ℕ, _+_, _*_, _-_, _≤_, _<_}
@@ -26,8 +27,9 @@ use Rattle.closure.specs.Job.{End, solved, opened, stopped, contradiction, jobE
 use Rattle.closure.proofs.Marks.{decided-some}
 use Rattle.inference.specs.Order.{orderCheck, defaultCeiling}
 use Rattle.grading.specs.Completions.{completions}
-use Rattle.grading.specs.Grade.{stages, afterJob, rateFrom}
+use Rattle.grading.specs.Grade.{stages, afterJob, rateFrom, gradeBy, gradeOf, gradeCall}
 use Rattle.grading.specs.declared.grade.Stage.{Stage}
+use Rattle.grading.specs.declared.grade.GradeAnswer.the-variants.{Graded}
 use Rattle.grading.proofs.Completions.{completions-in-order}
 use Rattle.grading.proofs.Grading.{jobAt}
 use Rattle.demands.specs.Gradings.{Grading}
@@ -35,7 +37,7 @@ use Rattle.demands.specs.NeverStopped.{trialsMost, NeverStopped, NeverSi
 use Rattle.demands.proofs.Ends.{end-ok}
 use Rattle.demands.proofs.Jobs.{unit-end}
 use Rattle.demands.proofs.GradeCalls.{call-graded}
-use Rattle.demands.proofs.GradingsCompared.{legal-carries, by-verdict}
+use Rattle.demands.proofs.GradingsCompared.{legal-carries, answer-parts}
 
 -- document 01's full grid with its upper three rows below the others
 another : List ℕ
@@ -103,14 +105,28 @@ module _ (g : List ℕ) (o : List ℤ) (accepted : orderCheck o ≡ Accepted) (l
       go (opened m n) w r = r (t + n) (omega (arith, w .0))
       go (contradiction n) w r = r (t + n) (omega (arith, w .0))
 
+-- no technique is run where there is no completion, or several; so the verdict is none but 0 to 5 and 7
+by-completions : (r : Grading) → 2 * trialsMost ≤ r .ceiling → (bs : List (List ℕ)) → completions (r .grid) ≡ bs
+    → gradeBy bs (λ u. rateFrom (r .grid) (r .order) (r .ceiling) stages 0) ≡ (Graded (r .verdict) (r .trials), r .completion) → (r .verdict ≤ 5) ⊎ (r .verdict ≡ 7)
+by-completions r h [] e q = inl (omega (arith, answer-parts q .0))
+by-completions r h (b ∷ []) e q =
+    let w = some-given (r .grid) b e in
+    let low : Low stages = (omega arith, (omega arith, (omega arith, (omega arith, tt)))) in
+    inl (omega (arith, answer-parts q .0, rated (r .grid) (r .order) (r .order-accepted) (w .0) (w .1) (r .ceiling) stages 0 low (omega arith)))
+by-completions r h (a ∷ b ∷ bs) e q = inr (sym (answer-parts q .0))
+
+verdicts : (r : Grading) → 2 * trialsMost ≤ r .ceiling → (r .verdict ≤ 5) ⊎ (r .verdict ≡ 7)
+unfolding gradeOf
+verdicts r h = by-completions r h (completions (r .grid)) refl (r .gave)
+
 pub never-stopped : NeverStopped
-never-stopped r h q =
-    let one = by-verdict r (omega arith) (omega arith) in
-    let w = some-given (r .grid) (r .completion) (one .completion) in
-    let v = rated (r .grid) (r .order) (r .order-accepted) (w .0) (w .1) (r .ceiling) stages 0 (omega arith, (omega arith, (omega arith, (omega arith, tt)))) (omega arith) in
-    omega (arith, one .verdict, v)
+never-stopped r h q = ⊎-elim (λ low. omega arith) (λ several. omega arith) (verdicts r h)
+
+-- the verdicts of calls under the default ceiling
+pub call-verdicts : (g : List ℕ) (o : List ℤ) (b : List ℕ) (v t : ℕ) (a : List ℕ) → gradeCall g o defaultCeiling b ≡ (Graded v t, a) → (v ≤ 5) ⊎ (v ≡ 7)
+call-verdicts g o b v t a e =
+    let w = call-graded g o defaultCeiling b v t a e in
+    subst (λ x. (x ≤ 5) ⊎ (x ≡ 7)) (w .1 .verdict) (verdicts (w .0) (omega (arith, w .1 .ceiling)))
 
 pub never-six : NeverSix
-never-six g o b t a e =
-    let w = call-graded g o defaultCeiling b 6 t a e in
-    never-stopped (w .0) (omega (arith, w .1 .ceiling)) (w .1 .verdict)
+never-six g o b t a e = ⊎-elim (λ low. omega arith) (λ several. omega arith) (call-verdicts g o b 6 t a e)
