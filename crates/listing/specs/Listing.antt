@@ -1,4 +1,5 @@
 -- The lines of a listing, byte for byte.
+use mathlib.Core.Path.{_≡_}
 use mathlib.Core.Bool.{cond}
 use mathlib.Core.List.{List, [], _∷_, _++_}
 use Prim.Native.Nat.{ℕ, zero, suc, _+_, _/_, _%_}
@@ -35,6 +36,10 @@ shown n (Refused r) = ((field n 32 ++ (82 ∷ [])) ++ (32 ∷ [])) ++ field (r .
 -- the output line of line number n: the line is graded under the default order and the default ceiling
 unfoldable pub listed : ℕ → List ℕ → List ℕ
 listed n line = shown n (gradeCall line defaultOrder defaultCeiling zeros .0)
+
+-- no line of a listing is one of verdict 6
+abbrev pub NoSix : Type 0
+NoSix = (n : ℕ) (line : List ℕ) (trials : ℕ) → listed n line ≡ shown n (Graded 6 trials) → ⊥
 
 -- bytes written from place `at` on
 unfoldable pub put : ℕ → List ℕ → List ℕ → List ℕ
