@@ -39,7 +39,7 @@ steps : (step failing 9 [] 0 (negsuc 0) ≡ refuted (1 ∷ [])) × (step failing
 unfolding failing step unitClosure sweeps sweep remaining has mark put decidedIn
 steps = (refl, refl)
 
--- what a job promises of its end: its meaning, at most so many trials, so that no higher ceiling stops it, and marks
+-- what a job promises of its end: its meaning, at most so many trials, no stop by a ceiling from there on, and marks
 pub record JobOk (R : LiteralSet → Type 0) (G : ℤ → Type 0) (ceiling bound : ℕ) (e : End) : Type 0 where
   pub end : EndOk R G e
   pub count : countOf e ≤ bound

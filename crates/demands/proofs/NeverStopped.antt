@@ -43,7 +43,7 @@ use Rattle.demands.proofs.GradingsCompared.{legal-carries, answer-parts
 another : List ℕ
 another = drop 27 G ++ take 27 G
 
--- both complete the blank grid,
+-- both complete a grid with no given,
 both-legal : T (isLegal [] G) × T (isLegal [] another)
 unfolding another G isLegal all isDigit times total cellOf
 both-legal = (tt, tt)
@@ -90,7 +90,7 @@ module _ (g : List ℕ) (o : List ℤ) (accepted : orderCheck o ≡ Accepted) (l
   within s false c = let w = unit-end (clausesOf s) c o (givens g) in (omega (arith, w .0), λ h. w .1)
   within s true c =
       let w = end-ok o accepted (record { set = s; trials = true }) g c 728 (omega arith) (λ m h. omega (arith, decided-some m l (given-literal g l i) (h l i))) in
-      (w .count, w .whole)
+      (omega (arith, w .count), λ h. w .whole (omega arith))
 
   -- where the ceiling has room for the techniques that are left, none is stopped
   rated : (c : ℕ) (ss : List Stage) (t : ℕ) → Low ss → t + mostOf ss ≤ c → rateFrom g o c ss t .verdict ≤ 5
@@ -105,9 +105,13 @@ module _ (g : List ℕ) (o : List ℤ) (accepted : orderCheck o ≡ Accepted) (l
       go (opened m n) w r = r (t + n) (omega (arith, w .0))
       go (contradiction n) w r = r (t + n) (omega (arith, w .0))
 
--- no technique is run where there is no completion, or several; so the verdict is none but 0 to 5 and 7
+-- the verdicts but 6
+abbrev pub NotSix : ℕ → Type 0
+NotSix v = (v ≤ 5) ⊎ (v ≡ 7)
+
+-- no technique is run where there is no completion, or several
 by-completions : (r : Grading) → 2 * trialsMost ≤ r .ceiling → (bs : List (List ℕ)) → completions (r .grid) ≡ bs
-    → gradeBy bs (λ u. rateFrom (r .grid) (r .order) (r .ceiling) stages 0) ≡ (Graded (r .verdict) (r .trials), r .completion) → (r .verdict ≤ 5) ⊎ (r .verdict ≡ 7)
+    → gradeBy bs (λ u. rateFrom (r .grid) (r .order) (r .ceiling) stages 0) ≡ (Graded (r .verdict) (r .trials), r .completion) → NotSix (r .verdict)
 by-completions r h [] e q = inl (omega (arith, answer-parts q .0))
 by-completions r h (b ∷ []) e q =
     let w = some-given (r .grid) b e in
@@ -115,18 +119,18 @@ by-completions r h (b ∷ []) e q =
     inl (omega (arith, answer-parts q .0, rated (r .grid) (r .order) (r .order-accepted) (w .0) (w .1) (r .ceiling) stages 0 low (omega arith)))
 by-completions r h (a ∷ b ∷ bs) e q = inr (sym (answer-parts q .0))
 
-verdicts : (r : Grading) → 2 * trialsMost ≤ r .ceiling → (r .verdict ≤ 5) ⊎ (r .verdict ≡ 7)
+verdicts : (r : Grading) → 2 * trialsMost ≤ r .ceiling → NotSix (r .verdict)
 unfolding gradeOf
 verdicts r h = by-completions r h (completions (r .grid)) refl (r .gave)
 
 pub never-stopped : NeverStopped
-never-stopped r h q = ⊎-elim (λ low. omega arith) (λ several. omega arith) (verdicts r h)
+never-stopped r h q = ⊎-elim (λ low. omega arith) (λ several. omega arith) (verdicts r (omega arith))
 
 -- the verdicts of calls under the default ceiling
-pub call-verdicts : (g : List ℕ) (o : List ℤ) (b : List ℕ) (v t : ℕ) (a : List ℕ) → gradeCall g o defaultCeiling b ≡ (Graded v t, a) → (v ≤ 5) ⊎ (v ≡ 7)
+pub call-verdicts : (g : List ℕ) (o : List ℤ) (b : List ℕ) (v t : ℕ) (a : List ℕ) → gradeCall g o defaultCeiling b ≡ (Graded v t, a) → NotSix v
 call-verdicts g o b v t a e =
     let w = call-graded g o defaultCeiling b v t a e in
-    subst (λ x. (x ≤ 5) ⊎ (x ≡ 7)) (w .1 .verdict) (verdicts (w .0) (omega (arith, w .1 .ceiling)))
+    subst NotSix (w .1 .verdict) (verdicts (w .0) (omega (arith, w .1 .ceiling)))
 
 pub never-six : NeverSix
-never-six g o b t a e = ⊎-elim (λ low. omega arith) (λ several. omega arith) (call-verdicts g o b 6 t a e)
+never-six g o b t a e = ⊎-elim (λ low. omega arith) (λ several. omega arith) (call-verdicts g o b _ t a e)

@@ -8,16 +8,16 @@ use Rattle.grading.specs.Grade.{gradeCall}
 use Rattle.grading.specs.declared.grade.GradeAnswer.the-variants.{Graded}
 use Rattle.demands.specs.Gradings.{Grading}
 
--- The trials that a technique makes at most where a variable is decided at its start, 2 · 728 + 2 · 727 + .. + 2: a pass makes at most two for each
--- undecided variable, and each pass but the last decides one.
+-- the trials that a technique makes at most where at least one variable is decided at its start, 2 · 728 + 2 · 727 + .. + 2: a pass makes at most two
+-- for each variable that is undecided at its start, and each pass but the last decides one
 abbrev pub trialsMost : ℕ
 trialsMost = 728 * 729
 
--- A grading that is not refused, whatever its grid and its order, is not stopped under a ceiling with room for two techniques: from
--- 1,061,424 on.
+-- Every grading that is not refused, whatever its grid and its order, under a ceiling that has room for the two techniques with trials, from
+-- 1,061,424 on: it is not stopped.
 abbrev pub NeverStopped : Type 0
 NeverStopped = (r : Grading) → 2 * trialsMost ≤ r .ceiling → r .verdict ≡ 6 → ⊥
 
--- A grading call under the default ceiling, whatever its grid, its order and its buffer, does not give verdict 6.
+-- Every grading call under the default ceiling, whatever its grid, its order and its buffer: it does not give verdict 6.
 abbrev pub NeverSix : Type 0
 NeverSix = (g : List ℕ) (o : List ℤ) (b : List ℕ) (t : ℕ) (a : List ℕ) → gradeCall g o defaultCeiling b ≡ (Graded 6 t, a) → ⊥
