@@ -13,12 +13,12 @@ use Rattle.clauses.specs.declared.ClauseAnswer.the-variants as answer
 use Rattle.inference.specs.Call as job
 use Rattle.inference.specs.declared.job.JobAnswer.{JobAnswer}
 use Rattle.inference.specs.declared.job.JobAnswer.the-variants as ran
-use Rattle.grading.specs.Call as find
+use Rattle.search.specs.Call as find
 use Rattle.grading.specs.Grade as grade
-use Rattle.grading.specs.declared.search.SearchAnswer.{SearchAnswer}
-use Rattle.grading.specs.declared.search.SearchAnswer.the-variants as search
-use Rattle.grading.specs.declared.grade.GradeAnswer.{GradeAnswer}
-use Rattle.grading.specs.declared.grade.GradeAnswer.the-variants as graded
+use Rattle.search.specs.declared.SearchAnswer.{SearchAnswer}
+use Rattle.search.specs.declared.SearchAnswer.the-variants as search
+use Rattle.grading.specs.declared.GradeAnswer.{GradeAnswer}
+use Rattle.grading.specs.declared.GradeAnswer.the-variants as graded
 use Rattle.batch.specs.Call as batch
 use Rattle.batch.specs.declared.BatchAnswer.{BatchAnswer}
 use Rattle.batch.specs.declared.BatchAnswer.the-variants as each

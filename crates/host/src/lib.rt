@@ -12,19 +12,19 @@
 //     grader_list_line        an output line of a listing
 use batch::BatchAnswer;
 use clauses::ClauseAnswer;
-use grading::grade::GradeAnswer;
-use grading::search::SearchAnswer;
+use grading::GradeAnswer;
 use grid::Checked;
 use grid::Refusal;
 use inference::job::JobAnswer;
 use inference::job::Outcome;
 use jobfile::ReadAnswer;
+use search::SearchAnswer;
 ghost use mathlib.Core.Path.{_≡_};
 ghost use Rattle.grid.specs.Completion.{isCompletion};
 ghost use Rattle.grid.specs.Refusals.{gridCheck};
 ghost use Rattle.clauses.specs.Call.{clauseCall};
 ghost use Rattle.inference.specs.Call.{outcomeNumber, jobCall};
-ghost use Rattle.grading.specs.Call.{searchCall};
+ghost use Rattle.search.specs.Call.{searchCall};
 ghost use Rattle.grading.specs.Grade.{gradeCall};
 ghost use Rattle.batch.specs.Call.{batchCall};
 ghost use Rattle.jobfile.specs.Call.{readCall};
@@ -170,7 +170,7 @@ pub extern "C" fn grader_search(grid: &[u8], first: &mut [u8], second: &mut [u8]
     ensures { λ p. ⌜ (p, now (first .exit), now (second .exit))
         ≡ packedFound (searchCall (now (grid .entry)) (now (first .entry)) (now (second .entry))) ⌝ }
 {
-    let answer = grading::search::search(grid, first, second);
+    let answer = search::search(grid, first, second);
     pack_search(answer)
 }
 
@@ -183,7 +183,7 @@ pub extern "C" fn grader_grade(
 ) -> u64
     ensures { λ p. ⌜ (p, now (completion .exit)) ≡ packedGraded (gradeCall (now (grid .entry)) (now (order .entry)) ceiling (now (completion .entry))) ⌝ }
 {
-    let answer = grading::grade::grade(grid, order, ceiling, completion);
+    let answer = grading::grade(grid, order, ceiling, completion);
     pack_grade(answer)
 }
 
