@@ -23,14 +23,14 @@ use Rattle.inference.specs.declared.job.Outcome.the-variants.{Solved, Stopped}
 use Rattle.demands.proofs.Ends.{outcome-iff}
 use Rattle.demands.proofs.JobCalls.{job-some}
 use Rattle.demands.proofs.Jobs.{answers}
-use Rattle.grading.specs.Completions.{Rising, completions}
+use Rattle.search.specs.Completions.{Rising, completions}
 use Rattle.grading.specs.Grade.{afterJob, rateFrom, stages, Given, gradeBy, gradeOf}
 use Rattle.demands.specs.Gradings.{Grading}
 use Rattle.demands.specs.DemandThree.{HasGivens, OfGradings}
-use Rattle.grading.specs.declared.grade.Stage.{Stage}
-use Rattle.grading.specs.declared.grade.Rating.{Rating}
-use Rattle.grading.specs.declared.grade.GradeAnswer.the-variants.{Graded}
-use Rattle.grading.proofs.Completions.{completions-in-order}
+use Rattle.grading.specs.declared.Stage.{Stage}
+use Rattle.grading.specs.declared.Rating.{Rating}
+use Rattle.grading.specs.declared.GradeAnswer.the-variants.{Graded}
+use Rattle.search.proofs.Completions.{completions-in-order}
 use Rattle.grading.proofs.Grading.{jobAt}
 use Rattle.demands.proofs.JobsCompared.{of-jobs}
 

@@ -26,11 +26,11 @@ use Rattle.clauses.proofs.Members.{givens-iff, given-literal}
 use Rattle.closure.specs.Job.{End, solved, opened, stopped, contradiction, jobEnd, countOf, outcomeOf}
 use Rattle.closure.proofs.Marks.{decided-some}
 use Rattle.inference.specs.Order.{orderCheck, defaultCeiling}
-use Rattle.grading.specs.Completions.{completions}
+use Rattle.search.specs.Completions.{completions}
+use Rattle.search.proofs.Completions.{completions-in-order}
 use Rattle.grading.specs.Grade.{stages, afterJob, rateFrom, gradeBy, gradeOf, gradeCall}
-use Rattle.grading.specs.declared.grade.Stage.{Stage}
-use Rattle.grading.specs.declared.grade.GradeAnswer.the-variants.{Graded}
-use Rattle.grading.proofs.Completions.{completions-in-order}
+use Rattle.grading.specs.declared.Stage.{Stage}
+use Rattle.grading.specs.declared.GradeAnswer.the-variants.{Graded}
 use Rattle.grading.proofs.Grading.{jobAt}
 use Rattle.demands.specs.Gradings.{Grading}
 use Rattle.demands.specs.NeverStopped.{trialsMost, NeverStopped, NeverSix}

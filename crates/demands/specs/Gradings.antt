@@ -7,7 +7,7 @@ use Rattle.grid.specs.Refusals.{gridCheck}
 use Rattle.grid.specs.declared.Checked.the-variants.{Accepted}
 use Rattle.inference.specs.Order.{orderCheck}
 use Rattle.grading.specs.Grade.{gradeOf}
-use Rattle.grading.specs.declared.grade.GradeAnswer.the-variants.{Graded}
+use Rattle.grading.specs.declared.GradeAnswer.the-variants.{Graded}
 
 -- A grading that is not refused: what it was given, and what it gave back.
 pub record Grading : Type 0 where

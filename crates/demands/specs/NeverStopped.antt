@@ -5,7 +5,7 @@ use Prim.Native.Nat.{ℕ, _*_, _≤_}
 use lib.IntN.{ℤ}
 use Rattle.inference.specs.Order.{defaultCeiling}
 use Rattle.grading.specs.Grade.{gradeCall}
-use Rattle.grading.specs.declared.grade.GradeAnswer.the-variants.{Graded}
+use Rattle.grading.specs.declared.GradeAnswer.the-variants.{Graded}
 use Rattle.demands.specs.Gradings.{Grading}
 
 -- the trials that a technique makes at most where at least one variable is decided at its start, 2 · 728 + 2 · 727 + .. + 2: a pass makes at most two

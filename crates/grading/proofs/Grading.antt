@@ -10,13 +10,13 @@ use Rattle.clauses.specs.Clauses.{clausesOf}
 use Rattle.clauses.specs.Models.{givens}
 use Rattle.closure.specs.Job.{End, jobEnd, countOf}
 use Rattle.closure.proofs.Ceiling.{count-below}
-use Rattle.grading.specs.Completions.{completions}
-use Rattle.grading.specs.Search.{zeros, foundOf}
+use Rattle.search.specs.Completions.{completions}
+use Rattle.search.specs.Search.{zeros, foundOf}
+use Rattle.search.specs.declared.find.Found.{Found}
 use Rattle.grading.specs.Grade.{stages, afterJob, rateFrom, Given, gradeBy, gradeOf}
-use Rattle.grading.specs.declared.search.Found.{Found}
-use Rattle.grading.specs.declared.grade.Stage.{Stage}
-use Rattle.grading.specs.declared.grade.Rating.{Rating}
-use Rattle.grading.specs.declared.grade.GradeAnswer.the-variants.{Graded}
+use Rattle.grading.specs.declared.Stage.{Stage}
+use Rattle.grading.specs.declared.Rating.{Rating}
+use Rattle.grading.specs.declared.GradeAnswer.the-variants.{Graded}
 
 module _ (g : List ℕ) (o : List ℤ) (ceiling : ℕ) where
   -- the job of a stage, t trials having been made before it

@@ -1,11 +1,2 @@
-pub mod ByteOrder
-pub mod Completions
-pub mod Found
-pub mod Marked
-pub mod Settling
-pub mod Refuting
-pub mod Left
-pub mod Branches
-pub mod Calls
 pub mod Grading
 pub mod GradeCalls

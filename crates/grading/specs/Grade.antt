@@ -12,12 +12,12 @@ use Rattle.clauses.specs.Models.{givens}
 use Rattle.closure.specs.Job.{End, solved, opened, stopped, contradiction, jobEnd}
 use Rattle.inference.specs.Order.{orderCheck}
 use Rattle.inference.specs.Technique.{unitMinimal, unitExtended, trialsMinimal, trialsExtended}
-use Rattle.grading.specs.Completions.{completions}
-use Rattle.grading.specs.Search.{zeros}
-use Rattle.grading.specs.declared.grade.Stage.{Stage}
-use Rattle.grading.specs.declared.grade.Rating.{Rating}
-use Rattle.grading.specs.declared.grade.GradeAnswer.{GradeAnswer}
-use Rattle.grading.specs.declared.grade.GradeAnswer.the-variants.{Graded, Refused}
+use Rattle.search.specs.Completions.{completions}
+use Rattle.search.specs.Search.{zeros}
+use Rattle.grading.specs.declared.Stage.{Stage}
+use Rattle.grading.specs.declared.Rating.{Rating}
+use Rattle.grading.specs.declared.GradeAnswer.{GradeAnswer}
+use Rattle.grading.specs.declared.GradeAnswer.the-variants.{Graded, Refused}
 
 -- the techniques that a grading tries, in order, each with the verdict where it solves
 abbrev pub stages : List Stage

@@ -1,4 +1,1 @@
-pub mod Completions
-pub mod Search
-pub mod Call
 pub mod Grade

@@ -1,4 +1,5 @@
-// The calls as C functions, for hosts to link. A slice passes as a pointer and a length, an array as a pointer.
+// The calls as C functions, for hosts to link. A slice passes as a pointer and a length, an array as a pointer. Each is one call of what
+// stands below, with the same promise, so that the toolchain proves it with no proof of ours.
 //
 //     grader_check_grid       the keyer's check of a grid
 //     grader_is_completion    the test of a legal completion
@@ -10,130 +11,23 @@
 //     grader_read_job_file    the reading of a job file
 //     grader_header           the header of a listing
 //     grader_list_line        an output line of a listing
-use batch::BatchAnswer;
-use clauses::ClauseAnswer;
-use grading::grade::GradeAnswer;
-use grading::search::SearchAnswer;
-use grid::Checked;
-use grid::Refusal;
-use inference::job::JobAnswer;
-use inference::job::Outcome;
-use jobfile::ReadAnswer;
 ghost use mathlib.Core.Path.{_≡_};
 ghost use Rattle.grid.specs.Completion.{isCompletion};
 ghost use Rattle.grid.specs.Refusals.{gridCheck};
 ghost use Rattle.clauses.specs.Call.{clauseCall};
-ghost use Rattle.inference.specs.Call.{outcomeNumber, jobCall};
-ghost use Rattle.grading.specs.Call.{searchCall};
+ghost use Rattle.inference.specs.Call.{jobCall};
+ghost use Rattle.search.specs.Call.{searchCall};
 ghost use Rattle.grading.specs.Grade.{gradeCall};
 ghost use Rattle.batch.specs.Call.{batchCall};
 ghost use Rattle.jobfile.specs.Call.{readCall};
 ghost use Rattle.listing.specs.Listing.{headerLine, listed};
-ghost use Rattle.host.specs.Packed.{packedRefusal, packedResult, packedCounted, packedCheck, packedClause, packedGiven, packedJob, packedRun};
-ghost use Rattle.host.specs.Packed.{packedSearch, packedFound, packedGrade, packedGraded};
-ghost use Rattle.host.specs.Packed.{packedBatch, packedRan, packedRead, packedFile, written};
-
-const RESULT: u64 = 281474976710656;
-
-const NUMBER: u64 = 72057594037927936;
-
-fn pack_refusal(r: Refusal) -> u64
-    ensures { λ p. ⌜ p ≡ packedRefusal r ⌝ }
-{
-    (r.number % 256) as u64 * NUMBER + (r.place as u64) % RESULT
-}
-
-fn pack_result(n: usize) -> u64
-    ensures { λ p. ⌜ p ≡ packedResult n ⌝ }
-{
-    (n % 256) as u64 * RESULT
-}
-
-fn pack_counted(n: usize, count: u32) -> u64
-    ensures { λ p. ⌜ p ≡ packedCounted n count ⌝ }
-{
-    pack_result(n) + (count as u64) % RESULT
-}
-
-fn pack_check(c: Checked) -> u64
-    ensures { λ p. ⌜ p ≡ packedCheck c ⌝ }
-{
-    match c {
-        Checked::Accepted => 0,
-        Checked::Refused(r) => pack_refusal(r),
-    }
-}
-
-fn pack_clause(a: ClauseAnswer) -> u64
-    ensures { λ p. ⌜ p ≡ packedClause a ⌝ }
-{
-    match a {
-        ClauseAnswer::Length(n) => pack_result(n),
-        ClauseAnswer::Refused(r) => pack_refusal(r),
-    }
-}
-
-fn outcome_number(o: Outcome) -> usize
-    ensures { λ r. ⌜ r ≡ outcomeNumber o ⌝ }
-{
-    match o {
-        Outcome::Solved => 1,
-        Outcome::Open => 2,
-        Outcome::Stopped => 3,
-        Outcome::Contradiction => 4,
-    }
-}
-
-fn pack_job(a: JobAnswer) -> u64
-    ensures { λ p. ⌜ p ≡ packedJob a ⌝ }
-{
-    match a {
-        JobAnswer::Finished(o, n) => pack_counted(outcome_number(o), n),
-        JobAnswer::Refused(r) => pack_refusal(r),
-    }
-}
-
-fn pack_search(a: SearchAnswer) -> u64
-    ensures { λ p. ⌜ p ≡ packedSearch a ⌝ }
-{
-    match a {
-        SearchAnswer::Counted(n) => pack_result(n as usize),
-        SearchAnswer::Refused(r) => pack_refusal(r),
-    }
-}
-
-fn pack_grade(a: GradeAnswer) -> u64
-    ensures { λ p. ⌜ p ≡ packedGrade a ⌝ }
-{
-    match a {
-        GradeAnswer::Graded(v, n) => pack_counted(v as usize, n),
-        GradeAnswer::Refused(r) => pack_refusal(r),
-    }
-}
-
-fn pack_batch(a: BatchAnswer) -> u64
-    ensures { λ p. ⌜ p ≡ packedBatch a ⌝ }
-{
-    match a {
-        BatchAnswer::Ran => 0,
-        BatchAnswer::Refused(r) => pack_refusal(r),
-    }
-}
-
-fn pack_read(a: ReadAnswer) -> u64
-    ensures { λ p. ⌜ p ≡ packedRead a ⌝ }
-{
-    match a {
-        ReadAnswer::Read(t, c) => pack_counted(t as usize, c),
-        ReadAnswer::Refused(r) => pack_refusal(r),
-    }
-}
+ghost use Rattle.packed.specs.Packed.{packedCheck, packedGiven, packedRun, packedFound, packedGraded, packedRan, packedFile, written};
 
 #[no_mangle]
 pub extern "C" fn grader_check_grid(grid: &[u8]) -> u64
     ensures { λ p. ⌜ p ≡ packedCheck (gridCheck (now (grid .entry))) ⌝ }
 {
-    pack_check(grid::check_grid(grid))
+    packed::check_grid(grid)
 }
 
 #[no_mangle]
@@ -147,8 +41,7 @@ pub extern "C" fn grader_is_completion(grid: &[u8], candidate: &[u8]) -> bool
 pub extern "C" fn grader_clause(set: u32, number: u32, literals: &mut [i16]) -> u64
     ensures { λ p. ⌜ (p, now (literals .exit)) ≡ packedGiven (clauseCall set number (now (literals .entry))) ⌝ }
 {
-    let answer = clauses::clause(set, number, literals);
-    pack_clause(answer)
+    packed::clause(set, number, literals)
 }
 
 #[no_mangle]
@@ -161,8 +54,7 @@ pub extern "C" fn grader_job(
 ) -> u64
     ensures { λ p. ⌜ (p, now (marks .exit)) ≡ packedRun (jobCall (now (grid .entry)) technique (now (order .entry)) ceiling (now (marks .entry))) ⌝ }
 {
-    let answer = inference::job::job(grid, technique, order, ceiling, marks);
-    pack_job(answer)
+    packed::job(grid, technique, order, ceiling, marks)
 }
 
 #[no_mangle]
@@ -170,8 +62,7 @@ pub extern "C" fn grader_search(grid: &[u8], first: &mut [u8], second: &mut [u8]
     ensures { λ p. ⌜ (p, now (first .exit), now (second .exit))
         ≡ packedFound (searchCall (now (grid .entry)) (now (first .entry)) (now (second .entry))) ⌝ }
 {
-    let answer = grading::search::search(grid, first, second);
-    pack_search(answer)
+    packed::search(grid, first, second)
 }
 
 #[no_mangle]
@@ -183,8 +74,7 @@ pub extern "C" fn grader_grade(
 ) -> u64
     ensures { λ p. ⌜ (p, now (completion .exit)) ≡ packedGraded (gradeCall (now (grid .entry)) (now (order .entry)) ceiling (now (completion .entry))) ⌝ }
 {
-    let answer = grading::grade::grade(grid, order, ceiling, completion);
-    pack_grade(answer)
+    packed::grade(grid, order, ceiling, completion)
 }
 
 #[no_mangle]
@@ -199,8 +89,7 @@ pub extern "C" fn grader_batch(
     ensures { λ p. ⌜ (p, now (marks .exit), now (answers .exit))
         ≡ packedRan (batchCall (now (grids .entry)) technique (now (order .entry)) ceiling (now (marks .entry)) (now (answers .entry))) ⌝ }
 {
-    let answer = batch::batch(grids, technique, order, ceiling, marks, answers);
-    pack_batch(answer)
+    packed::batch(grids, technique, order, ceiling, marks, answers)
 }
 
 #[no_mangle]
@@ -208,20 +97,19 @@ pub extern "C" fn grader_read_job_file(file: &[u8], grid: &mut [u8], order: &mut
     ensures { λ p. ⌜ (p, now (grid .exit), now (order .exit))
         ≡ packedFile (readCall (now (file .entry)) (now (grid .entry)) (now (order .entry))) ⌝ }
 {
-    let answer = jobfile::read(file, grid, order);
-    pack_read(answer)
+    packed::read_job_file(file, grid, order)
 }
 
 #[no_mangle]
 pub extern "C" fn grader_header(out: &mut [u8; 20])
     ensures { λ _. ⌜ now (out .exit) ≡ headerLine ⌝ }
 {
-    *out = listing::HEADER;
+    packed::header(out)
 }
 
 #[no_mangle]
 pub extern "C" fn grader_list_line(number: u64, line: &[u8], out: &mut [u8; 64]) -> usize
     ensures { λ r. ⌜ (r, now (out .exit)) ≡ written (listed number (now (line .entry))) (now (out .entry)) ⌝ }
 {
-    listing::list_line(number, line, out)
+    packed::list_line(number, line, out)
 }

@@ -9,9 +9,9 @@ use native.Mathlib.Omega.{arith}
 use lib.ListN.{getD}
 use Rattle.grid.specs.declared.Refusal.{Refusal}
 use Rattle.inference.specs.Order.{defaultOrder, defaultCeiling}
-use Rattle.grading.specs.Search.{zeros}
+use Rattle.search.specs.Search.{zeros}
 use Rattle.grading.specs.Grade.{Given, gradeCall}
-use Rattle.grading.specs.declared.grade.GradeAnswer.the-variants.{Graded, Refused}
+use Rattle.grading.specs.declared.GradeAnswer.the-variants.{Graded, Refused}
 use Rattle.demands.proofs.NeverStopped.{NotSix, call-verdicts}
 use Rattle.listing.specs.Listing.{field, shown, listed, NoSix}
 use Rattle.listing.proofs.Decimal.{decimal-digit}

@@ -6,10 +6,10 @@ use Prim.Native.Nat.{ℕ, zero, suc, _+_, _/_, _%_}
 use lib.Dec.{ltb}
 use lib.ListN.{set}
 use Rattle.inference.specs.Order.{defaultOrder, defaultCeiling}
-use Rattle.grading.specs.Search.{zeros}
+use Rattle.search.specs.Search.{zeros}
 use Rattle.grading.specs.Grade.{gradeCall}
-use Rattle.grading.specs.declared.grade.GradeAnswer.{GradeAnswer}
-use Rattle.grading.specs.declared.grade.GradeAnswer.the-variants.{Graded, Refused}
+use Rattle.grading.specs.declared.GradeAnswer.{GradeAnswer}
+use Rattle.grading.specs.declared.GradeAnswer.the-variants.{Graded, Refused}
 
 -- the header of a listing: `line verdict trials` and a newline
 abbrev pub headerLine : List ℕ

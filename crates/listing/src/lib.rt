@@ -1,6 +1,6 @@
 // The lines of a listing: a line of input is graded under the defaults, and its output line is written into a lent buffer.
-use grading::grade::GradeAnswer;
-use grading::grade::grade;
+use grading::GradeAnswer;
+use grading::grade;
 use inference::order::DEFAULT_CEILING;
 use inference::order::default_order;
 ghost use mathlib.Core.Path.{_≡_};

@@ -5,7 +5,7 @@ use Prim.Native.Nat.{ℕ, _≤_}
 use native.Mathlib.Omega.{arith}
 use borrow.Author.Needs.{needs}
 use lib.ListN.{length}
-use Rattle.grading.specs.declared.grade.GradeAnswer.{GradeAnswer}
+use Rattle.grading.specs.declared.GradeAnswer.{GradeAnswer}
 use Rattle.listing.specs.Listing.{field, shown, put}
 use Rattle.listing.proofs.Decimal.{Wrote, wrote-more}
 use Rattle.listing.proofs.show.Statement.{statement}

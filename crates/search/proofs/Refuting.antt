@@ -1,0 +1,90 @@
+-- What refutes marks. Where no full grid that fits the marks has a place true, the place may become false, and nothing is lost; where that
+-- is so of all nine places of a group, the marks leave nothing, since a full grid makes one of them true.
+-- Assumes nothing.
+use mathlib.Core.Path.{_≡_, refl, subst, _∙_}
+use mathlib.Core.Logic.{inl}
+use mathlib.Core.Bool.{true, false, not}
+use mathlib.Core.List.{List, [], List·Memᴰ, List·Memᴰ·not-nil}
+use Prim.Native.Nat.{ℕ, suc, _<_}
+use native.Mathlib.Omega.{arith}
+use lib.Dec.{T, not-T}
+use lib.IntN.{pos, negsuc}
+use Rattle.grid.proofs.Counting.{tally-find}
+use Rattle.clauses.specs.Clauses.{clausesOf}
+use Rattle.clauses.specs.Models.{truthOf}
+use Rattle.clauses.specs.Shape.{placeOf, IsGroup, clauseOf}
+use Rattle.clauses.specs.declared.ClauseSet.the-variants.{Extended}
+use Rattle.clauses.specs.declared.Group.{Group}
+use Rattle.clauses.specs.declared.Shape.the-variants.{OneOf}
+use Rattle.clauses.proofs.Members.{member-iff}
+use Rattle.clauses.proofs.Proper.{trueIn, one-of-iff}
+use Rattle.closure.specs.Sets.{Least}
+use Rattle.closure.specs.Closure.{Contradiction, With, UnitClosed}
+use Rattle.closure.specs.Marks.{has, IsMarks}
+use Rattle.closure.proofs.Marks.{decided-rises}
+use Rattle.inference.specs.Steps.{MarksOk}
+use Rattle.search.specs.Search.{left, Settles, SettledOk, Weighs, WeighedOk}
+use Rattle.search.specs.declared.branch.Settled.{Settled}
+use Rattle.search.specs.declared.branch.Settled.the-variants.{Clash, Decided}
+use Rattle.search.proofs.ByteOrder.{in-order-same, in-order-none}
+use Rattle.search.proofs.Left.{Fits, Of, model, with-fits, clash-fits, settled-fits, left-in-order}
+
+-- no grid that fits the marks has the place true
+abbrev pub Refuted : List ℕ → ℕ → Type 0
+Refuted m p = (b : List ℕ) → Fits (Of m) b → T (truthOf b (suc p)) → ⊥
+
+module _ (m : List ℕ) (p : ℕ) where
+  -- a place is refuted where it makes a contradiction, or where the closure with it leaves nothing
+  pub clash-refutes : Contradiction (Least (UnitClosed (clausesOf Extended)) (With (has m) (pos (suc p)))) → Refuted m p
+  clash-refutes k b f y = clash-fits (With (has m) (pos (suc p))) k b (with-fits m (pos (suc p)) b .1 (f, y))
+
+  pub none-refutes : (t : List ℕ) → Settles (With (has m) (pos (suc p))) t → left t ≡ [] → Refuted m p
+  none-refutes t s e b f y =
+      let g = settled-fits (With (has m) (pos (suc p))) t s b .0 (with-fits m (pos (suc p)) b .1 (f, y)) in
+      List·Memᴰ·not-nil (subst (List·Memᴰ b) e (left-in-order t (s .marks .marks) .members b .1 g))
+
+module _ (m : List ℕ) (i : IsMarks m) where
+  -- marks that no grid fits leave nothing
+  unfit-left : ((b : List ℕ) → Fits (Of m) b → ⊥) → left m ≡ []
+  unfit-left n = in-order-same (Fits (Of m)) (Fits (Of m)) (left m) [] (left-in-order m i) (in-order-none (Fits (Of m)) n) (λ b. ((λ f. f), λ f. f))
+
+  -- a place that is refuted becomes false
+  module _ (p : ℕ) (r : Refuted m p) where
+    struck : (b : List ℕ) → Fits (Of m) b → Fits (With (has m) (negsuc p)) b
+    struck b f = with-fits m (negsuc p) b .1 (f, not-T (truthOf b (suc p)) (r b f))
+
+    pub struck-weighs : (t : List ℕ) (r : Settled) → SettledOk (With (has m) (negsuc p)) t r → WeighedOk m t r
+    struck-weighs t Clash k = unfit-left (λ b f. clash-fits (With (has m) (negsuc p)) k b (struck b f))
+    struck-weighs t (Decided d) w =
+        let s = w .0 in (
+          record {
+            marks = s .marks;
+            more = decided-rises m t (λ l y. s .holds l (inl y));
+            same =
+                in-order-same (Fits (Of m)) (Fits (Of t)) (left m) (left t) (left-in-order m i) (left-in-order t (s .marks .marks))
+                (λ b. let q = settled-fits (With (has m) (negsuc p)) t s b in ((λ f. q .0 (struck b f)), λ f. with-fits m (negsuc p) b .0 (q .1 f) .0));
+          },
+          w .1,
+        )
+
+  -- a group all of whose places are refuted
+  pub group-refutes : (g : Group) → IsGroup g → ((j : ℕ) → j < 9 → Refuted m (placeOf g j)) → left m ≡ []
+  group-refutes g h r = unfit-left λ b f.
+      let s = model (Of m) b f (clauseOf (OneOf g)) (member-iff Extended (clauseOf (OneOf g)) .1 (OneOf g, h, tt, refl)) in
+      let w = tally-find (trueIn (truthOf b) g) 9 (one-of-iff (truthOf b) g .0 s) in
+      r (w .0) (w .1) b f (w .2)
+
+-- marks that are not refuted are promised nothing
+pub not-refuted : {A : Type 0} → false ≡ true → A
+not-refuted e = absurd (subst (λ b. T (not b)) e tt)
+
+-- Trials may leave marks as they are, and what they may do once they may do again.
+pub weighs-none : (m : List ℕ) → MarksOk Extended m → Weighs m m
+weighs-none m ok = record { marks = ok; more = omega arith; same = refl }
+
+pub weighs-again : (m t u : List ℕ) → Weighs m t → Weighs t u → Weighs m u
+weighs-again m t u v w = record { marks = w .marks; more = omega (arith, v .more, w .more); same = v .same ∙ w .same }
+
+pub weighed-again : (m t u : List ℕ) (r : Settled) → Weighs m t → WeighedOk t u r → WeighedOk m u r
+weighed-again m t u Clash v e = v .same ∙ e
+weighed-again m t u (Decided d) v w = (weighs-again m t u v (w .0), w .1)

@@ -1,0 +1,91 @@
+-- The search: what it finds, and what its marks say on the way.
+use mathlib.Core.Path.{_≡_}
+use mathlib.Core.Bool.{Bool, cond, not}
+use mathlib.Core.List.{List, []}
+use Prim.Native.Nat.{ℕ, suc, _+_, _*_, _≤_, min}
+use lib.Dec.{eqb}
+use lib.IntN.{ℤ, pos}
+use lib.ListN.{length, getD, replicate}
+use Rattle.grid.specs.Counting.{tally, all}
+use Rattle.clauses.specs.Clauses.{clausesOf}
+use Rattle.clauses.specs.Models.{truthOf, pick, completionOf}
+use Rattle.clauses.specs.declared.ClauseSet.the-variants.{Extended}
+use Rattle.closure.specs.Sets.{Holds, Within, Least}
+use Rattle.closure.specs.Closure.{Contradiction, UnitClosed}
+use Rattle.closure.specs.Marks.{has, decided}
+use Rattle.inference.specs.Order.{leastFrom}
+use Rattle.inference.specs.Steps.{MarksOk}
+use Rattle.search.specs.Completions.{those, completions}
+use Rattle.search.specs.declared.find.Found.{Found}
+use Rattle.search.specs.declared.branch.Settled.{Settled}
+use Rattle.search.specs.declared.branch.Settled.the-variants.{Clash, Decided}
+use Rattle.search.specs.declared.refute.Tried.{Tried}
+use Rattle.search.specs.declared.refute.Tried.the-variants.{Refuted, Full, Spent}
+
+-- 81 zero bytes: what stands for no completion
+abbrev pub zeros : List ℕ
+zeros = replicate 81 0
+
+-- what a search finds of a list of completions: their number as far as 2, and the first two
+unfoldable pub foundOf : List (List ℕ) → Found
+foundOf bs = record { count = min 2 (length bs); first = getD bs 0 zeros; second = getD bs 1 zeros }
+
+-- digit d + 1 is marked true in cell c, both counted from 0
+abbrev pub isIn : List ℕ → ℕ → ℕ → Bool
+isIn m c d = eqb (getD m (9 * c + d) 0) 1
+
+-- a cell with no digit is open
+unfoldable pub isOpen : List ℕ → ℕ → Bool
+isOpen m c = all 9 (λ d. not (isIn m c d))
+
+-- the number of open cells
+unfoldable pub openCells : List ℕ → ℕ
+openCells m = tally 81 (isOpen m)
+
+-- the first open cell, or 81
+unfoldable pub firstOpen : List ℕ → ℕ
+firstOpen m = leastFrom 0 81 (isOpen m)
+
+-- the digit byte that is marked in a cell
+unfoldable pub digitIn : List ℕ → ℕ → ℕ
+digitIn m c = 49 + pick 9 (isIn m c)
+
+-- the digit bytes that are marked
+unfoldable pub digitsIn : List ℕ → List ℕ
+digitsIn m = completionOf (λ v. has m (pos v))
+
+-- no mark of m says otherwise than the digits b
+unfoldable pub agrees : List ℕ → List ℕ → Bool
+agrees m b = all 729 (λ k. cond (truthOf b (suc k)) (not (eqb (getD m k 0) 2)) (not (eqb (getD m k 0) 1)))
+
+-- what the marks leave: the legal full grids that agree with them, in byte order
+unfoldable pub left : List ℕ → List (List ℕ)
+left m = those (agrees m) (completions [])
+
+-- What closing the literals G leaves: marks that have G, that the unit rule closes, and that have nothing but what the unit rule finds.
+pub record Settles (G : ℤ → Type 0) (m : List ℕ) : Type 0 where
+  pub marks : MarksOk Extended m
+  pub holds : Holds G (has m)
+  pub within : Within (has m) (Least (UnitClosed (clausesOf Extended)) G)
+
+-- it is a contradiction, or leaves such marks, with the number that they decide
+abbrev pub SettledOk : (ℤ → Type 0) → List ℕ → Settled → Type 0
+SettledOk G m Clash = Contradiction (Least (UnitClosed (clausesOf Extended)) G)
+SettledOk G m (Decided d) = Settles G m × (d ≡ decided m)
+
+-- What trials may do to marks: nothing is pending, no fewer variables are decided, and what was left is left.
+pub record Weighs (m m' : List ℕ) : Type 0 where
+  pub marks : MarksOk Extended m'
+  pub more : decided m ≤ decided m'
+  pub same : left m ≡ left m'
+
+-- they show that nothing is left, or leave such marks, with the number that they decide
+abbrev pub WeighedOk : List ℕ → List ℕ → Settled → Type 0
+WeighedOk m m' Clash = left m ≡ []
+WeighedOk m m' (Decided d) = Weighs m m' × (d ≡ decided m')
+
+-- what an attempt to refute marks promises: where it does, they leave nothing
+abbrev pub TriedOk : List ℕ → Tried → Type 0
+TriedOk m (Refuted n) = left m ≡ []
+TriedOk m Full = Unit {0}
+TriedOk m Spent = Unit {0}

@@ -1,0 +1,315 @@
+// A test whether marks leave no legal full grid. It is a search of its own, which needs one full grid and not the smallest, so that it may
+// branch where the tree looks smallest: on any group of nine places of which a full grid makes one true. First it dives for a full grid; then
+// each place is tried, and what the trial decides tells how large the tree below it may be. All that is promised is that marks which are
+// refuted leave nothing.
+use crate::branch::Settled;
+use crate::branch::assume;
+use crate::branch::join;
+use clauses::Group;
+use clauses::decode::place;
+use clauses::literal;
+ghost use mathlib.Core.Path.{_≡_};
+ghost use mathlib.Core.Bool.{true};
+ghost use mathlib.Core.List.{List};
+ghost use Prim.Native.Nat.{_<_, _≤_};
+ghost use Rattle.clauses.specs.Shape.{IsGroup};
+ghost use Rattle.clauses.specs.declared.ClauseSet.the-variants.{Extended};
+ghost use Rattle.closure.specs.Marks.{decided as decisions};
+ghost use Rattle.inference.specs.Steps.{MarksOk};
+ghost use Rattle.search.specs.Search.{left, WeighedOk, TriedOk};
+
+// How many groups there are: the cells, then each house for each digit.
+const GROUPS: usize = 324;
+
+// The groups by number.
+fn group_at(i: usize) -> Group
+    requires { ⌜ i < 324 ⌝ }
+    ensures { λ r. ⌜ IsGroup r ⌝ }
+{
+    if i < 81 {
+        Group::Cell(i)
+    } else {
+        Group::House((i - 81) / 9, i % 9)
+    }
+}
+
+fn wide(n: u32) -> u64
+    ensures { λ r. ⌜ r < 4294967296 ⌝ }
+{
+    n as u64
+}
+
+// More than any nine places weigh.
+const HEAVIEST: u64 = 18446744073709551615;
+
+// What the undecided places of a group weigh, less for each time that the test has failed at one of its places, so that the same few groups
+// are tried first; where a place is true, there is no choice to be made.
+fn load(marks: &[u8; 729], weights: &[u32; 729], failures: &[u32; 729], group: Group) -> u64
+    requires { ⌜ IsGroup group ⌝ }
+{
+    let mut sum = 0u64;
+    let mut failed = 0u64;
+    let mut j = 0;
+    while j < 9 {
+        let p = place(group, j);
+        if marks[p] == 1 {
+            return HEAVIEST;
+        }
+        if marks[p] == 0 {
+            sum += wide(weights[p]);
+        }
+        failed += wide(failures[p]);
+        j += 1;
+    }
+    16777216 * sum / (failed + 9)
+}
+
+// The number of the group, of the first so many, that weighs least, or their number where each has a true place.
+fn lightest(marks: &[u8; 729], weights: &[u32; 729], failures: &[u32; 729], groups: usize) -> usize
+    requires { ⌜ groups ≤ 324 ⌝ }
+    ensures { λ r. ⌜ r ≤ groups ⌝ }
+{
+    let mut least = HEAVIEST;
+    let mut at = groups;
+    let mut i = 0;
+    while i < groups {
+        let here = load(marks, weights, failures, group_at(i));
+        if here < least {
+            least = here;
+            at = i;
+        }
+        i += 1;
+    }
+    at
+}
+
+// The first undecided place of a group, or its last place.
+fn open_place(marks: &[u8; 729], group: Group) -> usize
+    requires { ⌜ IsGroup group ⌝ }
+    ensures { λ r. ⌜ r < 729 ⌝ }
+{
+    let mut k = 0;
+    while k < 8 {
+        let p = place(group, k);
+        if marks[p] == 0 {
+            return p;
+        }
+        k += 1;
+    }
+    place(group, k)
+}
+
+// Whether the marks become those of a full grid by a digit in each open cell, the cell with the fewest left first.
+fn dive(marks: &mut [u8; 729], decided: usize) -> bool
+    requires { ⌜ MarksOk Extended (now marks) × (decided ≡ decisions (now marks)) ⌝ }
+{
+    let even = [1u32; 729];
+    let never = [0u32; 729];
+    let mut known = decided;
+    while known < 729 {
+        let i = lightest(&*marks, &even, &never, 81);
+        if i == 81 {
+            return false;
+        }
+        let p = open_place(&*marks, group_at(i));
+        if marks[p] != 0 {
+            return false;
+        }
+        let assumed = assume(marks, known, p);
+        match assumed {
+            Settled::Clash => {
+                return false;
+            }
+            Settled::Decided(more) => {
+                known = more;
+            }
+        }
+    }
+    true
+}
+
+// How large the tree below a place is taken to be, by the number of places that its trial decides: half as large for each 12.
+fn weight(decided: usize) -> u32 {
+    let halvings = decided / 12;
+    if halvings < 32 {
+        (24 - decided % 12) as u32 * 67108864 >> halvings
+    } else {
+        0
+    }
+}
+
+// A trial of a place: where it fails, the place becomes false; else its weight is noted.
+fn weigh_place(
+    marks: &mut [u8; 729],
+    decided: usize,
+    weights: &mut [u32; 729],
+    place: usize,
+) -> Settled
+    requires { ⌜ MarksOk Extended (now marks) × (decided ≡ decisions (now marks)) × (place < 729) ⌝ }
+    ensures { λ r. ⌜ WeighedOk (now (marks .entry)) (now (marks .exit)) r ⌝ }
+{
+    if marks[place] != 0 {
+        return Settled::Decided(decided);
+    }
+    let mut with = *marks;
+    let tried = assume(&mut with, decided, place);
+    match tried {
+        Settled::Decided(known) => {
+            weights[place] = weight(known - decided);
+            Settled::Decided(decided)
+        }
+        Settled::Clash => join(marks, decided, literal::negative(place)),
+    }
+}
+
+// One failure more, which counts for four places, as far as a million.
+fn counted(failures: u32) -> u32 {
+    if failures < 1000000 {
+        failures + 4
+    } else {
+        failures
+    }
+}
+
+// A trial of each place with at least so many failures. It ends at a place that can be neither true nor false.
+fn weigh_from(
+    marks: &mut [u8; 729],
+    decided: usize,
+    weights: &mut [u32; 729],
+    failures: &mut [u32; 729],
+    least: u32,
+) -> Settled
+    requires { ⌜ MarksOk Extended (now marks) × (decided ≡ decisions (now marks)) ⌝ }
+    ensures { λ r. ⌜ WeighedOk (now (marks .entry)) (now (marks .exit)) r ⌝ }
+{
+    let mut known = decided;
+    let mut p = 0;
+    while p < 729 {
+        if least <= failures[p] {
+            let weighed = weigh_place(marks, known, weights, p);
+            match weighed {
+                Settled::Clash => {
+                    failures[p] = counted(failures[p]);
+                    return Settled::Clash;
+                }
+                Settled::Decided(more) => {
+                    known = more;
+                }
+            }
+        }
+        p += 1;
+    }
+    Settled::Decided(known)
+}
+
+// A trial of each place: first of those at which the test has failed before.
+fn weigh(
+    marks: &mut [u8; 729],
+    decided: usize,
+    weights: &mut [u32; 729],
+    failures: &mut [u32; 729],
+) -> Settled
+    requires { ⌜ MarksOk Extended (now marks) × (decided ≡ decisions (now marks)) ⌝ }
+    ensures { λ r. ⌜ WeighedOk (now (marks .entry)) (now (marks .exit)) r ⌝ }
+{
+    let first = weigh_from(marks, decided, weights, failures, 1);
+    match first {
+        Settled::Clash => Settled::Clash,
+        Settled::Decided(known) => weigh_from(marks, known, weights, failures, 0),
+    }
+}
+
+// What an attempt to refute marks comes to: they leave nothing, with what is left of the nodes allowed; they have become those of a full
+// grid; or the nodes are spent.
+pub(crate) enum Tried {
+    Refuted(u32),
+    Full,
+    Spent,
+}
+
+// An attempt with so many nodes.
+fn refute_within(
+    marks: &mut [u8; 729],
+    decided: usize,
+    failures: &mut [u32; 729],
+    nodes: u32,
+) -> Tried
+    requires { ⌜ MarksOk Extended (now marks) × (decided ≡ decisions (now marks)) ⌝ }
+    ensures { λ r. ⌜ TriedOk (now (marks .entry)) r ⌝ }
+{
+    if nodes == 0 {
+        return Tried::Spent;
+    }
+    let mut full = *marks;
+    if dive(&mut full, decided) {
+        *marks = full;
+        return Tried::Full;
+    }
+    let mut weights = [0u32; 729];
+    let weighed = weigh(marks, decided, &mut weights, failures);
+    match weighed {
+        Settled::Clash => Tried::Refuted(nodes - 1),
+        Settled::Decided(known) => {
+            let i = lightest(&*marks, &weights, &*failures, GROUPS);
+            if i == GROUPS {
+                return Tried::Full;
+            }
+            let group = group_at(i);
+            let mut rest = nodes - 1;
+            let mut k = 0;
+            while k < 9 {
+                let p = place(group, k);
+                if marks[p] == 1 {
+                    return Tried::Spent;
+                }
+                let mut next = *marks;
+                let assumed = assume(&mut next, known, p);
+                match assumed {
+                    Settled::Clash => {}
+                    Settled::Decided(more) => {
+                        let tried = refute_within(&mut next, more, failures, rest);
+                        match tried {
+                            Tried::Refuted(n) => {
+                                rest = n;
+                            }
+                            Tried::Full => {
+                                *marks = next;
+                                return Tried::Full;
+                            }
+                            Tried::Spent => {
+                                return Tried::Spent;
+                            }
+                        }
+                    }
+                }
+                k += 1;
+            }
+            Tried::Refuted(rest)
+        }
+    }
+}
+
+// Whether the marks are shown to leave nothing. Where they are not, they become those of a full grid that they leave, unless all attempts
+// are spent. Each attempt has a third more nodes than the one before, and goes by where that one failed.
+pub(crate) fn refuted(marks: &mut [u8; 729], decided: usize, failures: &mut [u32; 729]) -> bool
+    requires { ⌜ MarksOk Extended (now marks) × (decided ≡ decisions (now marks)) ⌝ }
+    ensures { λ r. ⌜ (r ≡ true → left (now (marks .entry)) ≡ List.[]) ⌝ }
+{
+    let mut nodes = 12u32;
+    while nodes < 16777216 {
+        let mut near = *marks;
+        let tried = refute_within(&mut near, decided, failures, nodes);
+        match tried {
+            Tried::Refuted(_) => {
+                return true;
+            }
+            Tried::Full => {
+                *marks = near;
+                return false;
+            }
+            Tried::Spent => {}
+        }
+        nodes += nodes / 3;
+    }
+    false
+}
