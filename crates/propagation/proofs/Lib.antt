@@ -1,0 +1,11 @@
+pub mod Slots
+pub mod Rules
+pub mod Literals
+mod Sums
+mod Assigning
+mod Striking
+mod Opening
+mod Affirming
+mod Looking
+pub mod Closing
+mod Givens

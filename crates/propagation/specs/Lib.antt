@@ -1,0 +1,4 @@
+pub mod Groups
+pub mod Sums
+pub mod Acting
+pub mod Steps
