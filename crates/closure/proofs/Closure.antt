@@ -68,7 +68,7 @@ true-or-false false = inr tt
 
 module _ (A : Truth) where
   -- of a literal and its negation one is true,
-  truth-total : (l : ℤ) → Literal l → T (holds A l) ⊎ T (holds A (negℤ l))
+  pub truth-total : (l : ℤ) → Literal l → T (holds A l) ⊎ T (holds A (negℤ l))
   truth-total (pos zero) v = absurd v
   truth-total (pos (suc k)) v = true-or-false (A (suc k))
   truth-total (negsuc k) v = ⊎-swap (true-or-false (A (suc k)))

@@ -1,19 +1,26 @@
 -- The techniques of a grading, one after the other, and what the search has found.
 -- Assumes nothing.
-use mathlib.Core.Path.{_≡_, refl, ap, sym, _∙_}
-use mathlib.Core.List.{List, [], _∷_}
-use Prim.Native.Nat.{ℕ, _-_, _≤_, min}
+use mathlib.Core.Path.{_≡_, refl, ap, sym, subst, _∙_}
+use mathlib.Core.Bool.{Bool, true, false, cond, not}
+use mathlib.Core.List.{List, [], _∷_, List·Memᴰ, List·Memᴰ·head}
+use Prim.Native.Nat.{ℕ, zero, suc, _-_, _%_, _≤_, min}
 use native.Mathlib.Omega.{arith}
-use lib.IntN.{ℤ}
+use lib.Dec.{T}
+use lib.IntN.{ℤ, pos, negsuc}
 use lib.ListN.{length, getD}
+use Rattle.grid.specs.Completion.{Legal}
 use Rattle.clauses.specs.Clauses.{clausesOf}
-use Rattle.clauses.specs.Models.{givens}
+use Rattle.clauses.specs.Literal.{Literal}
+use Rattle.clauses.specs.Models.{givens, holds, truthOf}
 use Rattle.closure.specs.Job.{End, jobEnd, countOf}
 use Rattle.closure.proofs.Ceiling.{count-below}
+use Rattle.propagation.proofs.Literals.{index-place}
+use Rattle.inference.specs.Known.{Named, CompletionOk}
 use Rattle.search.specs.Completions.{completions}
 use Rattle.search.specs.Search.{zeros, foundOf}
 use Rattle.search.specs.declared.find.Found.{Found}
-use Rattle.grading.specs.Grade.{stages, afterJob, rateFrom, Given, gradeBy, gradeOf}
+use Rattle.search.proofs.Completions.{completions-in-order}
+use Rattle.grading.specs.Grade.{stages, afterJob, rateFrom, MarksOf, Given, gradeBy, gradeOf}
 use Rattle.grading.specs.declared.Stage.{Stage}
 use Rattle.grading.specs.declared.Rating.{Rating}
 use Rattle.grading.specs.declared.GradeAnswer.the-variants.{Graded}
@@ -77,3 +84,28 @@ module _ (g : List ℕ) (o : List ℤ) (ceiling : ℕ) (found : Found) (e : foun
   pub graded-several : (x : List ℕ) → (found .count ≡ 0 → ⊥) → (found .count ≡ 1 → ⊥) → x ≡ zeros → _≡_ {A = Given} (Graded 7 0, x) (gradeOf g o ceiling)
   unfolding gradeOf
   graded-several x h k q = ap (λ y. (Graded 7 0, y)) q ∙ by-several (completions g) rating (λ z. h (counted ∙ z)) (λ z. k (counted ∙ z))
+
+-- the literals that the marks of a legal completion name are its own
+pub marks-complete : (g b m : List ℕ) → Legal g b → MarksOf b m → CompletionOk g m
+marks-complete g b m h r = record { long = r .long; completes = λ l v n. (b, h, own l v n) }
+  where
+    odd : (t : Bool) → cond t 1 2 % 2 ≡ 1 → T t
+    odd true e = tt
+    odd false e = absurd (omega arith)
+
+    high : (t : Bool) → 2 ≤ cond t 1 2 → T (not t)
+    high true e = absurd (omega arith)
+    high false e = tt
+
+    own : (l : ℤ) → Literal l → Named m l → T (holds (truthOf b) l)
+    own (pos zero) v n = absurd v
+    own (pos (suc k)) v n = odd (truthOf b (suc k)) (subst (λ x. x % 2 ≡ 1) (r .marks k v) (subst (λ p. getD m p 0 % 2 ≡ 1) (index-place (pos (suc k)) v) n))
+    own (negsuc k) v n = high (truthOf b (suc k)) (subst (λ x. 2 ≤ x) (r .marks k v) (subst (λ p. 2 ≤ getD m p 0) (index-place (negsuc k) v) n))
+
+-- the only completion that is found is legal
+pub only-legal : (g : List ℕ) (f : Found) → f ≡ foundOf (completions g) → f .count ≡ 1 → Legal g (f .first)
+only-legal g f e h = subst (λ x. Legal g (x .first)) (sym e) (go (completions g) (λ b. completions-in-order g .members b .0) (sym (ap (λ x. x .count) e) ∙ h))
+  where
+    go : (bs : List (List ℕ)) → ((b : List ℕ) → List·Memᴰ b bs → Legal g b) → foundOf bs .count ≡ 1 → Legal g (foundOf bs .first)
+    go [] k q = absurd (omega (arith, q))
+    go (b ∷ bs) k q = k b (List·Memᴰ·head refl)

@@ -1,14 +1,15 @@
 -- Grading: the weakest technique that finishes a grid with one completion, under one ceiling for all trials.
+use mathlib.Core.Path.{_≡_}
 use mathlib.Core.Bool.{cond}
 use mathlib.Core.List.{List, [], _∷_}
-use Prim.Native.Nat.{ℕ, _+_, _-_}
+use Prim.Native.Nat.{ℕ, suc, _+_, _-_, _<_}
 use lib.Dec.{eqb}
 use lib.IntN.{ℤ}
-use lib.ListN.{length}
+use lib.ListN.{length, getD}
 use Rattle.grid.specs.Refusals.{refusal, onAccepted, gridCheck}
 use Rattle.grid.specs.declared.Refusal.{Refusal}
 use Rattle.clauses.specs.Clauses.{clausesOf}
-use Rattle.clauses.specs.Models.{givens}
+use Rattle.clauses.specs.Models.{givens, truthOf}
 use Rattle.closure.specs.Job.{End, solved, opened, stopped, contradiction, jobEnd}
 use Rattle.inference.specs.Order.{orderCheck}
 use Rattle.inference.specs.Technique.{unitMinimal, unitExtended, trialsMinimal, trialsExtended}
@@ -41,6 +42,11 @@ module _ (g : List ℕ) (o : List ℤ) (ceiling : ℕ) where
   rateFrom [] t = record { verdict = 5; trials = t }
   rateFrom (s ∷ ss) t =
       afterJob (jobEnd (clausesOf (s .technique .set)) (ceiling - t) (s .technique .trials) o (givens g)) (s .verdict) t (rateFrom ss)
+
+-- a mark for each variable, 1 where it is true of the digits b and 2 where it is false
+pub record MarksOf (b m : List ℕ) : Type 0 where
+  pub long : length m ≡ 729
+  pub marks : (p : ℕ) → p < 729 → getD m p 0 ≡ cond (truthOf b (suc p)) 1 2
 
 -- what a grading call gives back: its answer, and the lent buffer at its return
 abbrev pub Given : Type 0

@@ -7,7 +7,7 @@ use grid::Checked;
 use grid::Refusal;
 use grid::check_grid;
 use grid::copy::copy_out;
-use inference::job::run;
+use inference::job::run_with;
 use inference::order::check_order;
 use inference::technique::Technique;
 use inference::trial::End;
@@ -17,8 +17,9 @@ ghost use mathlib.Core.List.{_∷_};
 ghost use Prim.Native.Nat.{_+_, _<_};
 ghost use lib.ListN.{length, drop};
 ghost use Rattle.grid.specs.Refusals.{refusal};
+ghost use Rattle.inference.specs.Known.{CompletionOk};
 ghost use Rattle.inference.specs.Steps.{Literals};
-ghost use Rattle.grading.specs.Grade.{stages, rateFrom, gradeOf, gradeCall};
+ghost use Rattle.grading.specs.Grade.{stages, rateFrom, MarksOf, gradeOf, gradeCall};
 ghost use Rattle.grading.specs.declared.GradeAnswer.the-variants.{Refused};
 
 // A technique that a grading tries, with the verdict where it solves.
@@ -61,16 +62,37 @@ pub struct Rating {
     pub trials: u32,
 }
 
-// The rating of a grid with one completion: each technique gets what the earlier ones left of the ceiling.
-fn climb(grid: &[u8], order: &[i16], ceiling: u32) -> Rating
-    requires { ⌜ (length (now grid) ≡ 81) × Literals (now order) ⌝ }
+// The marks of a completion: its digits are true, and all others false.
+fn marks_of(completion: &[u8; 81]) -> [u8; 729]
+    ensures { λ r. ⌜ MarksOf (now (completion .entry)) r ⌝ }
+{
+    let mut marks = [2u8; 729];
+    let mut p = 0;
+    while p < 729 {
+        if completion[p / 9] == 49 + (p % 9) as u8 {
+            marks[p] = 1;
+        }
+        p += 1;
+    }
+    marks
+}
+
+// The rating of a grid with one completion, whose literals are known to succeed: each technique gets what the earlier ones left of the ceiling.
+fn climb(grid: &[u8], order: &[i16], ceiling: u32, possible: &[u8; 729]) -> Rating
+    requires { ⌜ (length (now grid) ≡ 81) × Literals (now order) × CompletionOk (now grid) (now possible) ⌝ }
     ensures { λ r. ⌜ r ≡ rateFrom (now (grid .entry)) (now (order .entry)) ceiling stages 0 ⌝ }
 {
     let mut trials = 0;
     let mut i = 0;
     while i < 4 {
         let stage = stage_at(i);
-        let ended = run(stage.technique, grid, order, ceiling - trials);
+        let ended = run_with(
+            stage.technique,
+            grid,
+            order,
+            ceiling - trials,
+            possible,
+        );
         let end = ended.end;
         match end {
             End::Solved(n) => {
@@ -112,7 +134,8 @@ fn rate(grid: &[u8], order: &[i16], ceiling: u32, completion: &mut [u8]) -> Grad
     if found.count == 1 {
         let only = found.first;
         copy_out(&only, completion);
-        let rating = climb(grid, order, ceiling);
+        let possible = marks_of(&only);
+        let rating = climb(grid, order, ceiling, &possible);
         return GradeAnswer::Graded(rating.verdict, rating.trials);
     }
     let blank = [0u8; 81];

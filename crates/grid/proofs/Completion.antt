@@ -73,6 +73,11 @@ grid-iff g = go (eqb (length g) 81) (ltb (firstBad g) 81) refl refl
     go true false e f = let n = eqb-true (length g) 81 e in let late = ltb-false (firstBad g) 81 f in
         rw (e, f) ((λ q. all-iff 81 _ .1 (λ c h. means .0 (omega arith) c (omega arith))), λ t. refl)
 
+-- such a grid has 81 bytes
+pub accepted-long : (g : List ℕ) → gridCheck g ≡ Accepted → length g ≡ 81
+unfolding isGrid
+accepted-long g e = eqb→eq (length g) 81 (and-iff (eqb (length g) 81) _ .0 (grid-iff g .0 e) .0)
+
 module _ (g b : List ℕ) where
   kept : T (keepsGivens g b) ↔ ((c : ℕ) → c < 81 → T (isDigit (byte g c)) → byte b c ≡ byte g c)
   kept =

@@ -22,6 +22,11 @@ unfoldable pub all : ℕ → (ℕ → Bool) → Bool
 all zero p = true
 all (suc n) p = p n && all n p
 
+-- the least number that passes, of n numbers from a on, or the number after them
+unfoldable pub leastFrom : ℕ → ℕ → (ℕ → Bool) → ℕ
+leastFrom a zero p = a
+leastFrom a (suc n) p = cond (p a) a (leastFrom (suc a) n p)
+
 module _ {A : Type 0} where
   -- the place of the first entry that passes the test, counted from 0, or the length where none does
   unfoldable pub firstAt : (A → Bool) → List A → ℕ

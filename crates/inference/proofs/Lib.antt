@@ -1,16 +1,7 @@
-pub mod Groups
-pub mod Moves
-pub mod Pending
-pub mod Rules
-pub mod Settling
-pub mod Striking
-pub mod Visiting
 pub mod Techniques
-pub mod Least
 pub mod Orders
 pub mod Seen
-pub mod Closing
+pub mod Knowing
 pub mod Trying
 pub mod Walking
-pub mod Givens
 pub mod Calls

@@ -16,13 +16,13 @@ use Rattle.grid.specs.Counting.{all}
 use Rattle.grid.specs.declared.Checked.the-variants.{Accepted}
 use Rattle.grid.proofs.Table.{false-is}
 use Rattle.grid.proofs.First.{all-pass}
+use Rattle.grid.proofs.Least.{Least, least, least-is}
 use Rattle.grid.proofs.Completion.{eq-iff, not-accepted}
 use Rattle.clauses.specs.Clauses.{range, over}
 use Rattle.clauses.specs.Literal.{Literal, isLiteral}
 use Rattle.clauses.proofs.Signed.{literal-iff}
 use Rattle.inference.specs.Order.{defaultOrder, firstNoLiteral, same, repeats, firstRepeat, orderCheck}
 use Rattle.inference.specs.Place.{tablePlace}
-use Rattle.inference.proofs.Least.{Least, least, least-is}
 
 -- the entry at place i, 0 past the end
 abbrev pub entry : List ℤ → ℕ → ℤ

@@ -19,11 +19,10 @@ use Rattle.closure.specs.Job.{Step, kept, refuted, broken, try, stepOf, step, W
 use Rattle.closure.proofs.Marks.{or-iff}
 use Rattle.grid.proofs.Completion.{eq-iff}
 use Rattle.grid.proofs.Table.{true-is, false-is}
-use Rattle.inference.specs.Steps.{MarksOk, answerOf, ClosedOk}
-use Rattle.inference.specs.Trail.{placeAt}
-use Rattle.inference.specs.declared.propagation.Reached.{Reached}
-use Rattle.inference.specs.declared.propagation.Reached.the-variants.{Clash, Tail}
-use Rattle.inference.proofs.Closing.{open-byte}
+use Rattle.propagation.specs.Steps.{answerOf}
+use Rattle.propagation.specs.declared.close.Reached.{Reached}
+use Rattle.propagation.specs.declared.close.Reached.the-variants.{Clash, Decided}
+use Rattle.propagation.proofs.Literals.{placeAt, open-byte, byte-open}
 
 not-not : (b : Bool) → ((T b → ⊥) → ⊥) → T b
 not-not true n = tt
@@ -31,14 +30,14 @@ not-not false n = absurd (n (λ t. t))
 
 -- a trial by its two closures
 module _ (a b : Answer) (r : Reached) (m : List ℕ) (e : answerOf r m ≡ a) where
-  pub try-kept : {t : ℕ} → r ≡ Tail t → kept ≡ try a (λ u. b)
+  pub try-kept : {t : ℕ} → r ≡ Decided t → kept ≡ try a (λ u. b)
   try-kept h = ap (λ x. try x (λ u. b)) (ap (λ x. answerOf x m) (sym h) ∙ e)
 
   module _ (h : r ≡ Clash) (q : Reached) (n : List ℕ) (f : answerOf q n ≡ b) where
     failed : try clash (λ u. answerOf q n) ≡ try a (λ u. b)
     failed = ap (λ x. try x (λ u. answerOf q n)) (ap (λ x. answerOf x m) (sym h) ∙ e) ∙ ap (λ x. try a (λ u. x)) f
 
-    pub try-refuted : {t : ℕ} → q ≡ Tail t → refuted n ≡ try a (λ u. b)
+    pub try-refuted : {t : ℕ} → q ≡ Decided t → refuted n ≡ try a (λ u. b)
     try-refuted k = ap (λ x. try clash (λ u. answerOf x n)) (sym k) ∙ failed
 
     pub try-broken : q ≡ Clash → broken ≡ try a (λ u. b)
@@ -59,21 +58,9 @@ open-negation m l n t =
     ⊎-elim (λ x. n (or-iff (has m l) (has m (negℤ l)) .1 (inr x))) (λ x. n (or-iff (has m l) (has m (negℤ l)) .1 (inl (subst (λ y. T (has m y)) (negℤ-negℤ l) x))))
     (or-iff (has m (negℤ l)) (has m (negℤ (negℤ l))) .0 t)
 
--- the marks after a closure that is no contradiction
-pub closed-marks : (s : ClauseSet) (m m' : List ℕ) (r : Reached) (t : ℕ) → r ≡ Tail t → ClosedOk s m m' r → MarksOk s m' × (decided m' ≡ decided m + t)
-closed-marks s m m' r t e h = subst (ClosedOk s m m') e h
-
 -- a place is decided where its byte is not 0
 pub byte-decided : (m : List ℕ) → IsMarks m → (l : ℤ) → Literal l → (getD m (placeAt l) 0 ≡ 0 → ⊥) → T (isDecided m l)
 byte-decided m i l v n = not-not (isDecided m l) (λ t. n (open-byte m i l v t))
-
-pub byte-open : (m : List ℕ) (l : ℤ) → Literal l → getD m (placeAt l) 0 ≡ 0 → T (isDecided m l) → ⊥
-unfolding has
-byte-open m (pos zero) v z t = v
-byte-open m (pos (suc k)) v z t =
-    ⊎-elim (λ x. omega (arith, z, eq-iff (getD m k 0) 1 .0 x)) (λ x. omega (arith, z, eq-iff (getD m k 0) 2 .0 x)) (or-iff (has m (pos (suc k))) (has m (negsuc k)) .0 t)
-byte-open m (negsuc k) v z t =
-    ⊎-elim (λ x. omega (arith, z, eq-iff (getD m k 0) 2 .0 x)) (λ x. omega (arith, z, eq-iff (getD m k 0) 1 .0 x)) (or-iff (has m (negsuc k)) (has m (pos (suc k))) .0 t)
 
 -- the next literal of an order
 module _ (cs : List Clause) (ceiling : ℕ) (m : List ℕ) (n : ℕ) (l : ℤ) (f : Bool) where

@@ -1,7 +1,6 @@
-pub mod Groups
-pub mod Trail
 pub mod Technique
 pub mod Order
 pub mod Place
+pub mod Known
 pub mod Steps
 pub mod Call

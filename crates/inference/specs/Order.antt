@@ -1,11 +1,11 @@
 -- The order of trials: its default, and the operator's check of it.
 use mathlib.Core.Bool.{Bool, false, cond, not}
 use mathlib.Core.List.{List, [], _∷_}
-use Prim.Native.Nat.{ℕ, zero, suc}
+use Prim.Native.Nat.{ℕ, suc}
 use lib.Dec.{eqb, ltb}
 use lib.IntN.{ℤ, pos, negsuc}
 use lib.ListN.{length, getD}
-use Rattle.grid.specs.Counting.{all, firstAt}
+use Rattle.grid.specs.Counting.{all, firstAt, leastFrom}
 use Rattle.grid.specs.Refusals.{refusal}
 use Rattle.grid.specs.declared.Checked.{Checked}
 use Rattle.grid.specs.declared.Checked.the-variants.{Accepted, Refused}
@@ -34,11 +34,6 @@ same (negsuc a) (pos b) = false
 -- the entry at place i equals an earlier one
 unfoldable pub repeats : List ℤ → ℕ → Bool
 repeats o i = not (all i (λ j. not (same (getD o j (pos 0)) (getD o i (pos 0)))))
-
--- the least number that passes, of n numbers from a on, or the number after them
-unfoldable pub leastFrom : ℕ → ℕ → (ℕ → Bool) → ℕ
-leastFrom a zero p = a
-leastFrom a (suc n) p = cond (p a) a (leastFrom (suc a) n p)
 
 -- the place of the first entry equal to an earlier one, or the length
 unfoldable pub firstRepeat : List ℤ → ℕ

@@ -1,31 +1,25 @@
 // The job call: the unit closure of a grid's givens, then trials, after the checks of what is lent.
 use crate::order::check_order;
-use crate::propagation::Reached;
-use crate::propagation::propagate;
 use crate::technique::Numbered;
 use crate::technique::Technique;
 use crate::trial::End;
 use crate::trial::Ended;
 use crate::trial::State;
 use crate::trial::passes;
-use clauses::ClauseSet;
 use grid::Checked;
 use grid::Refusal;
 use grid::check_grid;
-use grid::legal::is_digit;
+use propagation::close::Reached;
+use propagation::close::close_givens;
 ghost use mathlib.Core.Path.{_≡_};
-ghost use Prim.Native.Nat.{_+_, _*_, _<_};
 ghost use lib.ListN.{length};
-ghost use Rattle.grid.specs.Grid.{isDigit, digitOf};
 ghost use Rattle.grid.specs.Refusals.{refusal};
 ghost use Rattle.clauses.specs.Clauses.{clausesOf};
 ghost use Rattle.clauses.specs.Models.{givens};
-ghost use Rattle.closure.specs.Marks.{blank};
-ghost use Rattle.closure.specs.Propagation.{bind, join, unitClosure};
 ghost use Rattle.closure.specs.Job.{jobEnd};
 ghost use Rattle.inference.specs.Call.{finished, jobCall};
-ghost use Rattle.inference.specs.Steps.{answerOf, ClosedOk, endOf, Literals, OpenFrom, withGiven};
-ghost use Rattle.inference.specs.Trail.{Ready, Moved};
+ghost use Rattle.inference.specs.Known.{CompletionOk};
+ghost use Rattle.inference.specs.Steps.{endOf, Literals};
 ghost use Rattle.inference.specs.declared.job.JobAnswer.the-variants.{Refused};
 
 // How a job ends.
@@ -42,59 +36,29 @@ pub enum JobAnswer {
     Refused(Refusal),
 }
 
-// A given is marked and put on the trail.
-fn mark_given(
-    marks: &mut [u8; 729],
-    trail: &mut [u16; 729],
-    tail: usize,
-    cell: usize,
-    byte: u8,
-) -> usize
-    requires { ⌜ Ready (now marks) (now trail) tail × (cell < 81) × OpenFrom (9 * cell) (now marks) ⌝ }
-    ensures { λ r. ⌜ Moved (now (marks .entry)) (now (trail .entry)) tail (now (marks .exit)) (now (trail .exit)) r
-        × (now (marks .exit) ≡ withGiven (isDigit byte) (now (marks .entry)) cell (digitOf byte)) × OpenFrom (9 * (cell + 1)) (now (marks .exit)) ⌝ }
-{
-    if is_digit(byte) {
-        let p = 9 * cell + ((byte - 49) as usize);
-        marks[p] = 1;
-        trail[tail] = p as u16;
-        tail + 1
-    } else {
-        tail
-    }
-}
-
-// The unit closure of a grid's givens.
-pub fn begin(marks: &mut [u8; 729], set: ClauseSet, grid: &[u8]) -> Reached
-    requires { ⌜ (now marks ≡ blank) × (length (now grid) ≡ 81) ⌝ }
-    ensures { λ r. ⌜ (answerOf r (now (marks .exit)) ≡ bind (join blank (givens (now (grid .entry)))) (unitClosure (clausesOf set)))
-        × ClosedOk set blank (now (marks .exit)) r ⌝ }
-{
-    let mut trail = [0u16; 729];
-    let mut tail = 0;
-    let mut i = 0;
-    while i < 81 {
-        tail = mark_given(marks, &mut trail, tail, i, grid[i]);
-        i += 1;
-    }
-    propagate(marks, &mut trail, tail, set)
-}
-
-// A job that is not refused.
-pub fn run(technique: Technique, grid: &[u8], order: &[i16], ceiling: u32) -> Ended
-    requires { ⌜ (length (now grid) ≡ 81) × Literals (now order) ⌝ }
+// A job that is not refused, where the trials of some literals are known to succeed.
+pub fn run_with(
+    technique: Technique,
+    grid: &[u8],
+    order: &[i16],
+    ceiling: u32,
+    possible: &[u8; 729],
+) -> Ended
+    requires { ⌜ (length (now grid) ≡ 81) × Literals (now order) × CompletionOk (now grid) (now possible) ⌝ }
     ensures { λ r. ⌜ endOf (r .end) (r .state .marks)
         ≡ jobEnd (clausesOf (technique .set)) ceiling (technique .trials) (now (order .entry)) (givens (now (grid .entry))) ⌝ }
 {
     let set = technique.set;
     let mut marks = [0u8; 729];
-    let begun = begin(&mut marks, set, grid);
+    let mut sums = [0u16; 324];
+    let mut list = [0u16; 2916];
+    let begun = close_givens(&mut marks, &mut sums, &mut list, set, grid);
     match begun {
         Reached::Clash => Ended {
             end: End::Contradiction(0),
             state: State { marks, decided: 0 },
         },
-        Reached::Tail(decided) => {
+        Reached::Decided(decided) => {
             let state = State { marks, decided };
             if decided == 729 {
                 return Ended {
@@ -103,7 +67,7 @@ pub fn run(technique: Technique, grid: &[u8], order: &[i16], ceiling: u32) -> En
                 };
             }
             if technique.trials {
-                passes(state, set, order, ceiling)
+                passes(state, &mut sums, &mut list, possible, set, order, ceiling)
             } else {
                 Ended {
                     end: End::Open(0),
@@ -112,6 +76,16 @@ pub fn run(technique: Technique, grid: &[u8], order: &[i16], ceiling: u32) -> En
             }
         }
     }
+}
+
+// A job that is not refused.
+pub fn run(technique: Technique, grid: &[u8], order: &[i16], ceiling: u32) -> Ended
+    requires { ⌜ (length (now grid) ≡ 81) × Literals (now order) ⌝ }
+    ensures { λ r. ⌜ endOf (r .end) (r .state .marks)
+        ≡ jobEnd (clausesOf (technique .set)) ceiling (technique .trials) (now (order .entry)) (givens (now (grid .entry))) ⌝ }
+{
+    let none = [0u8; 729];
+    run_with(technique, grid, order, ceiling, &none)
 }
 
 // Copies marks out.

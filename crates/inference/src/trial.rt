@@ -1,20 +1,24 @@
-// Trials along an order of literals, in passes, under a ceiling. A trial is made on a copy of the lent marks, and they change only where
-// the negation of a failed literal joins.
-use crate::propagation::Reached;
-use crate::propagation::propagate;
+// Trials along an order of literals, in passes, under a ceiling. A trial is made on a copy of the lent marks and their sums, which change only
+// where the negation of a failed literal joins. A trial whose success is known is only counted.
 use clauses::ClauseSet;
 use clauses::literal;
+use propagation::close::Reached;
+use propagation::close::close_with;
 ghost use mathlib.Core.Path.{_≡_};
-ghost use mathlib.Core.Bool.{false};
-ghost use Prim.Native.Nat.{_+_, _≤_};
+ghost use mathlib.Core.Bool.{true, false};
+ghost use Prim.Native.Nat.{ℕ, _≤_, _<_};
+ghost use lib.Bits.{bitOr};
 ghost use lib.Dec.{T};
 ghost use lib.IntN.{negℤ};
+ghost use lib.ListN.{length, getD};
 ghost use Rattle.clauses.specs.Literal.{Literal};
 ghost use Rattle.clauses.specs.Clauses.{clausesOf};
 ghost use Rattle.closure.specs.Marks.{isDecided, mark, decided as decisions};
 ghost use Rattle.closure.specs.Propagation.{unitClosure};
 ghost use Rattle.closure.specs.Job.{step, walk as walkAlong, passes as passesAlong, after, try, walked};
-ghost use Rattle.inference.specs.Steps.{MarksOk, ClosedOk, answerOf, StateOk, TriedOk, triedOf, walkOf, PassOk, endOf, Literals};
+ghost use Rattle.propagation.specs.Steps.{StateOk};
+ghost use Rattle.inference.specs.Known.{Names, KnownOk, PossibleOk};
+ghost use Rattle.inference.specs.Steps.{TriedOk, triedOf, walkOf, Walking, PassOk, endOf, Literals};
 
 // The state of a job: a mark for each variable, 0 undecided, 1 true, 2 false, with the number decided.
 pub struct State {
@@ -22,43 +26,76 @@ pub struct State {
     pub decided: usize,
 }
 
-// The unit closure of marks with one literal more; where it is no contradiction, the trail is as long as there are variables newly decided.
-pub fn close_with(marks: &mut [u8; 729], set: ClauseSet, literal: i16) -> Reached
-    requires { ⌜ MarksOk set (now marks) × Literal literal × (T (isDecided (now marks) literal) → ⊥) ⌝ }
-    ensures { λ r. ⌜ (answerOf r (now (marks .exit)) ≡ unitClosure (clausesOf set) (mark (now (marks .entry)) literal))
-        × ClosedOk set (now (marks .entry)) (now (marks .exit)) r ⌝ }
+// Whether a variable's byte names a literal.
+fn is_named(byte: u8, literal: i16) -> bool
+    ensures { λ r. ⌜ (r ≡ true → Names byte literal) ⌝ }
 {
-    let p = literal::mark_index(literal);
-    marks[p] = if literal < 0 { 2 } else { 1 };
-    let mut trail = [0u16; 729];
-    trail[0] = p as u16;
-    propagate(marks, &mut trail, 1, set)
+    if literal < 0 {
+        2 <= byte
+    } else {
+        byte % 2 == 1
+    }
 }
 
-// What a trial shows: nothing; that the negation joins, with the number of variables that it decides; or a contradiction.
+// What is marked is named too.
+fn note(known: &mut [u8; 729], marks: &[u8; 729])
+    requires { ⌜ length (now known) ≡ 729 ⌝ }
+    ensures { λ _. ⌜ (length (now (known .exit)) ≡ 729)
+        × ((p : ℕ) → p < 729 → getD (now (known .exit)) p 0 ≡ bitOr (getD (now (known .entry)) p 0) (getD (now (marks .entry)) p 0)) ⌝ }
+{
+    let mut i = 0;
+    while i < 729 {
+        known[i] = known[i] | marks[i];
+        i += 1;
+    }
+}
+
+// What a trial shows: nothing; that the negation joins, with the number of variables decided then; or a contradiction.
 pub(crate) enum Shown {
     Kept,
     Refuted(usize),
     Broken,
 }
 
-// A trial of a literal; where it fails, the marks become those of its negation.
-fn attempt(marks: &mut [u8; 729], set: ClauseSet, literal: i16) -> Shown
-    requires { ⌜ MarksOk set (now marks) × Literal literal × (T (isDecided (now marks) literal) → ⊥) ⌝ }
+// A trial of a literal. Where it succeeds, all that it decides is known to succeed; where it fails, the marks become those of its negation.
+fn attempt(
+    marks: &mut [u8; 729],
+    sums: &mut [u16; 324],
+    list: &mut [u16; 2916],
+    known: &mut [u8; 729],
+    decided: usize,
+    set: ClauseSet,
+    literal: i16,
+) -> Shown
+    requires { ⌜ StateOk set (now marks) (now sums) decided × KnownOk set (now marks) (now known) × Literal literal
+        × (T (isDecided (now marks) literal) → ⊥) ⌝ }
     ensures { λ r. ⌜ (triedOf r (now (marks .exit)) ≡ try (unitClosure (clausesOf set) (mark (now (marks .entry)) literal))
         (λ u. unitClosure (clausesOf set) (mark (now (marks .entry)) (negℤ literal))))
-        × MarksOk set (now (marks .exit)) × TriedOk (now (marks .entry)) (now (marks .exit)) r ⌝ }
+        × TriedOk set (now (marks .entry)) (now (sums .entry)) (now (marks .exit)) (now (sums .exit)) (now (known .exit)) r ⌝ }
 {
     let mut with = *marks;
-    let tried = close_with(&mut with, set, literal);
+    let mut weights = *sums;
+    let tried = close_with(&mut with, &mut weights, list, decided, set, literal);
     match tried {
-        Reached::Tail(_) => Shown::Kept,
+        Reached::Decided(_) => {
+            note(known, &with);
+            Shown::Kept
+        }
         Reached::Clash => {
             let mut without = *marks;
-            let joined = close_with(&mut without, set, literal::negated(literal));
+            let mut lighter = *sums;
+            let joined = close_with(
+                &mut without,
+                &mut lighter,
+                list,
+                decided,
+                set,
+                literal::negated(literal),
+            );
             match joined {
-                Reached::Tail(more) => {
+                Reached::Decided(more) => {
                     *marks = without;
+                    *sums = lighter;
                     Shown::Refuted(more)
                 }
                 Reached::Clash => Shown::Broken,
@@ -81,9 +118,13 @@ pub(crate) enum Pass {
     Ended(usize, End),
 }
 
-// The next literal of the order.
+// The next literal of the order. Where its trial fails, only what is possible is still known to succeed.
 fn next(
     marks: &mut [u8; 729],
+    sums: &mut [u16; 324],
+    list: &mut [u16; 2916],
+    known: &mut [u8; 729],
+    possible: &[u8; 729],
     decided: usize,
     set: ClauseSet,
     ceiling: u32,
@@ -91,27 +132,31 @@ fn next(
     failed: bool,
     literal: i16,
 ) -> Pass
-    requires { ⌜ MarksOk set (now marks) × (decided ≡ decisions (now marks)) × Literal literal × (count ≤ ceiling) ⌝ }
+    requires { ⌜ Walking set (now marks) (now sums) (now known) (now possible) decided × Literal literal × (count ≤ ceiling) ⌝ }
     ensures { λ r. ⌜ (walkOf r (now (marks .exit))
         ≡ after (step (clausesOf set) ceiling (now (marks .entry)) count literal) (now (marks .entry)) count failed walked)
-        × MarksOk set (now (marks .exit)) × PassOk ceiling (now (marks .exit)) r ⌝ }
+        × PassOk set ceiling (now (marks .exit)) (now (sums .exit)) (now (known .exit)) (now (possible .entry)) r ⌝ }
 {
-    if marks[literal::mark_index(literal)] != 0 {
+    let at = literal::mark_index(literal);
+    if marks[at] != 0 {
         return Pass::Walked(decided, count, failed);
     }
     if count == ceiling {
         return Pass::Ended(decided, End::Stopped(count));
     }
-    let shown = attempt(marks, set, literal);
+    if is_named(known[at], literal) {
+        return Pass::Walked(decided, count + 1, failed);
+    }
+    let shown = attempt(marks, sums, list, known, decided, set, literal);
     match shown {
         Shown::Kept => Pass::Walked(decided, count + 1, failed),
         Shown::Broken => Pass::Ended(decided, End::Contradiction(count + 1)),
         Shown::Refuted(more) => {
-            let sum = decided + more;
-            if sum == 729 {
-                return Pass::Ended(sum, End::Solved(count + 1));
+            if more == 729 {
+                return Pass::Ended(more, End::Solved(count + 1));
             }
-            Pass::Walked(sum, count + 1, true)
+            *known = *possible;
+            Pass::Walked(more, count + 1, true)
         }
     }
 }
@@ -119,22 +164,38 @@ fn next(
 // A pass along the order.
 fn walk(
     marks: &mut [u8; 729],
+    sums: &mut [u16; 324],
+    list: &mut [u16; 2916],
+    known: &mut [u8; 729],
+    possible: &[u8; 729],
     decided: usize,
     set: ClauseSet,
     order: &[i16],
     ceiling: u32,
     count: u32,
 ) -> Pass
-    requires { ⌜ MarksOk set (now marks) × (decided ≡ decisions (now marks)) × Literals (now order) × (count ≤ ceiling) ⌝ }
+    requires { ⌜ Walking set (now marks) (now sums) (now known) (now possible) decided × Literals (now order) × (count ≤ ceiling) ⌝ }
     ensures { λ r. ⌜ (walkOf r (now (marks .exit)) ≡ walkAlong (clausesOf set) ceiling (now (order .entry)) (now (marks .entry)) count false)
-        × MarksOk set (now (marks .exit)) × PassOk ceiling (now (marks .exit)) r ⌝ }
+        × PassOk set ceiling (now (marks .exit)) (now (sums .exit)) (now (known .exit)) (now (possible .entry)) r ⌝ }
 {
     let mut d = decided;
     let mut n = count;
     let mut failed = false;
     let mut i = 0;
     while i < order.len() {
-        let pass = next(marks, d, set, ceiling, n, failed, order[i]);
+        let pass = next(
+            marks,
+            sums,
+            list,
+            known,
+            possible,
+            d,
+            set,
+            ceiling,
+            n,
+            failed,
+            order[i],
+        );
         match pass {
             Pass::Walked(e, c, f) => {
                 d = e;
@@ -157,17 +218,37 @@ pub struct Ended {
 }
 
 // Passes along the order: each but the last decides a variable, so 729 are enough.
-pub(crate) fn passes(state: State, set: ClauseSet, order: &[i16], ceiling: u32) -> Ended
-    requires { ⌜ StateOk set state × Literals (now order) ⌝ }
+pub(crate) fn passes(
+    state: State,
+    sums: &mut [u16; 324],
+    list: &mut [u16; 2916],
+    possible: &[u8; 729],
+    set: ClauseSet,
+    order: &[i16],
+    ceiling: u32,
+) -> Ended
+    requires { ⌜ StateOk set (state .marks) (now sums) (state .decided) × PossibleOk set (state .marks) (now possible) × Literals (now order) ⌝ }
     ensures { λ r. ⌜ (endOf (r .end) (r .state .marks) ≡ passesAlong (clausesOf set) ceiling 729 (now (order .entry)) (state .marks) 0)
-        × StateOk set (r .state) ⌝ }
+        × (r .state .decided ≡ decisions (r .state .marks)) ⌝ }
 {
     let mut marks = state.marks;
+    let mut known = *possible;
     let mut d = state.decided;
     let mut n = 0;
     let mut left = 729usize;
     while 0 < left {
-        let pass = walk(&mut marks, d, set, order, ceiling, n);
+        let pass = walk(
+            &mut marks,
+            sums,
+            list,
+            &mut known,
+            possible,
+            d,
+            set,
+            order,
+            ceiling,
+            n,
+        );
         match pass {
             Pass::Walked(e, c, failed) => {
                 if !failed {

@@ -3,30 +3,35 @@
 -- Assumes nothing.
 use mathlib.Core.Path.{_≡_, refl, ap, sym, subst, _∙_}
 use mathlib.Core.Logic.{_⊎_, inl, inr, ⊎-elim, _↔_}
-use mathlib.Core.List.{List}
+use mathlib.Core.List.{List, List·Memᴰ}
 use Prim.Native.Nat.{ℕ, zero, suc, _+_, _*_, _≤_, _<_}
 use native.Mathlib.Decide.{decLt}
 use native.Mathlib.Omega.{arith}
 use lib.Dec.{T}
-use lib.IntN.{ℤ, pos, negsuc}
+use lib.IntN.{ℤ, pos, negsuc, negℤ}
 use lib.ListN.{length, getD, set}
 use Rattle.clauses.specs.Clauses.{clausesOf}
+use Rattle.clauses.specs.Literal.{Literal}
+use Rattle.clauses.specs.Models.{givens}
 use Rattle.clauses.specs.Shape.{placeOf}
 use Rattle.clauses.specs.declared.ClauseSet.{ClauseSet}
+use Rattle.clauses.proofs.Members.{given-literal}
 use Rattle.closure.specs.Sets.{LiteralSet, Least}
 use Rattle.closure.specs.Closure.{With, UnitClosed}
-use Rattle.closure.specs.Marks.{has, IsMarks}
-use Rattle.closure.specs.Propagation.{Answer, clash, closed, Closes}
+use Rattle.closure.specs.Marks.{has, isDecided, mark, blank, IsMarks}
+use Rattle.closure.specs.Propagation.{Answer, clash, closed, bind, join, unitClosure, Closes}
 use Rattle.closure.proofs.Sets.{least-mono, least-within}
 use Rattle.closure.proofs.Closure.{contradiction-mono}
-use Rattle.closure.proofs.Marks.{has-single}
+use Rattle.closure.proofs.Marks.{has-single, has-mark, is-marks-mark, or-iff}
+use Rattle.closure.proofs.ClauseSets.{well-formed}
+use Rattle.closure.proofs.Propagation.{InMarks, unit-closure-ok, unit-closure-marks, closes-same, closes-unique, givens-closed}
 use Rattle.propagation.specs.Groups.{groupAt, groupIn, indexAt, kindAt, numberOf, slotAt, PairKind, NineKind, firstPair}
 use Rattle.propagation.specs.Sums.{InSlots, SumsOk, sumOf}
 use Rattle.propagation.specs.Acting.{True, False, Undecided, Ready, Struck, Stepped}
-use Rattle.propagation.specs.Steps.{MarksOk, StateOk, answerOf, ClosesTo}
+use Rattle.propagation.specs.Steps.{MarksOk, StateOk, StateLeft, answerOf, ClosesTo}
 use Rattle.propagation.specs.declared.acting.Work.{Work}
 use Rattle.propagation.specs.declared.close.Reached.{Reached}
-use Rattle.propagation.specs.declared.close.Reached.the-variants.{Decided}
+use Rattle.propagation.specs.declared.close.Reached.the-variants.{Clash, Decided}
 use Rattle.propagation.proofs.Slots.{number-at, at-number, number-below, index-at, place-at, group-same, slot-group, slot-in, place-once}
 use Rattle.propagation.proofs.Sums.{sum-small, sum-large, byte-true}
 use Rattle.propagation.proofs.Rules.{closed-strikes, groups-closed}
@@ -111,3 +116,33 @@ closes-begun s m m₀ m₁ {m₂ = m₂} {r = r} e v c =
       answer = closes-between (λ k x. v .keeps k (e k .1 x)) (λ k t. least-mono (λ S u. u) (λ j x. e j .0 x) k (v .follows k t)) (answerOf r m₂) (c .answer);
       state = c .state;
     }
+
+-- the answer is one of marks
+answer-marks : (s : ClauseSet) (m a : List ℕ) (r : Reached) → StateLeft s m a r → InMarks (answerOf r m)
+answer-marks s m a Clash h = tt
+answer-marks s m a (Decided d) h = h .marks .marks
+
+-- what closing comes to is the computed closure, byte for byte: of marks with one literal more,
+pub closes-computed : (s : ClauseSet) (m : List ℕ) (l : ℤ) → IsMarks m → Literal l → (T (isDecided m l) → ⊥) → {m' a' : List ℕ} {r : Reached} → ClosesTo s (With (has m) l) m' a' r
+    → answerOf r m' ≡ unitClosure (clausesOf s) (mark m l)
+closes-computed s m l i v n {m'} {a'} {r} c =
+    let cs = clausesOf s in
+    let wf = well-formed s in
+    let e = has-mark m l v (λ t. n (or-iff (has m l) (has m (negℤ l)) .1 (inr t))) in
+    closes-unique (UnitClosed cs) (λ k. T (has (mark m l) k)) (answerOf r m') (unitClosure cs (mark m l)) (answer-marks s m' a' r (c .state)) (unit-closure-marks cs wf (mark m l) (is-marks-mark m l i v))
+    (closes-same (UnitClosed cs) (With (has m) l) (λ k. T (has (mark m l) k)) (λ k. (e k .1, e k .0)) (answerOf r m') (c .answer)) (unit-closure-ok cs wf (mark m l))
+
+-- and of a grid's givens
+pub givens-computed : (s : ClauseSet) (g : List ℕ) {m a : List ℕ} {r : Reached} → ClosesTo s (λ l. List·Memᴰ l (givens g)) m a r
+    → answerOf r m ≡ bind (join blank (givens g)) (unitClosure (clausesOf s))
+givens-computed s g {m} {a} {r} c =
+    let cs = clausesOf s in
+    let w = givens-closed cs (well-formed s) (givens g) (given-literal g) in
+    closes-unique (UnitClosed cs) (λ l. List·Memᴰ l (givens g)) (answerOf r m) (bind (join blank (givens g)) (unitClosure cs)) (answer-marks s m a r (c .state)) (w .1) (c .answer) (w .0)
+
+-- what closing comes to, case by case
+pub closes-answer : {s : ClauseSet} {G : ℤ → Type 0} {m a : List ℕ} {r : Reached} → ClosesTo s G m a r → (q : Reached) → r ≡ q → Closes (UnitClosed (clausesOf s)) G (answerOf q m)
+closes-answer {s} {G} {m} c q e = subst (λ x. Closes (UnitClosed (clausesOf s)) G (answerOf x m)) e (c .answer)
+
+pub closes-state : {s : ClauseSet} {G : ℤ → Type 0} {m a : List ℕ} {r : Reached} → ClosesTo s G m a r → (q : Reached) → r ≡ q → StateLeft s m a q
+closes-state {s} {G} {m} {a} c q e = subst (StateLeft s m a) e (c .state)

@@ -1,7 +1,7 @@
 pub mod Slots
 pub mod Rules
 pub mod Literals
-mod Sums
+pub mod Sums
 mod Assigning
 mod Striking
 mod Opening

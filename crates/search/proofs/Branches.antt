@@ -17,10 +17,12 @@ use Rattle.clauses.proofs.ModelsAreCompletions.{truth-at}
 use Rattle.closure.specs.Sets.{Least}
 use Rattle.closure.specs.Closure.{Contradiction, With, UnitClosed}
 use Rattle.closure.specs.Marks.{has, IsMarks}
+use Rattle.propagation.specs.Steps.{ClosesTo}
+use Rattle.propagation.specs.declared.close.Reached.the-variants.{Decided}
 use Rattle.search.specs.Completions.{those, Before, InOrder}
-use Rattle.search.specs.Search.{isIn, left, Settles}
+use Rattle.search.specs.Search.{isIn, left}
 use Rattle.search.proofs.ByteOrder.{in-order-same, in-order-as, in-order-none, in-order-those, in-order-append}
-use Rattle.search.proofs.Left.{Fits, Of, fixed, with-fits, clash-fits, settled-fits, left-in-order}
+use Rattle.search.proofs.Left.{Fits, Of, fixed, with-fits, clash-fits, closed-fits, left-in-order}
 
 -- the grids that the marks leave with one of the first d digits in a cell,
 abbrev pub below : List ℕ → ℕ → ℕ → List (List ℕ)
@@ -99,15 +101,15 @@ module _ (m : List ℕ) (i : IsMarks m) (c : ℕ) (h : c < 81) where
             λ w. (w .0, omega (arith, w .1)),
           ))
 
-      pub branch-left : (t : List ℕ) → Settles Digit t → below m c (d + 1) ≡ below m c d ++ left t
-      branch-left t s =
+      pub branch-left : {t a : List ℕ} {k : ℕ} → ClosesTo Extended Digit t a (Decided k) → below m c (d + 1) ≡ below m c d ++ left t
+      branch-left {t} s =
           in-order-same (Below (d + 1)) (λ b. Below d b ⊎ Fits (Of t) b) (below m c (d + 1)) (below m c d ++ left t) (below-in-order (d + 1))
-          (in-order-append (Below d) (Fits (Of t)) (below m c d) (left t) (below-in-order d) (left-in-order t (s .marks .marks))
+          (in-order-append (Below d) (Fits (Of t)) (below m c d) (left t) (below-in-order d) (left-in-order t (s .state .marks .marks))
           (λ a b v f. let w = back b f in smaller-before a b (v .0) (w .0) (omega (arith, v .1, w .1))))
           (λ b. (
-            (λ w. elim (decLt (byte b c) (49 + d)) [ yes l ↦ inl (w .0, l) | no n ↦ inr (settled-fits Digit t s b .0 (digit-fits b .1 (w .0, omega (arith, w .1)))) ]),
+            (λ w. elim (decLt (byte b c) (49 + d)) [ yes l ↦ inl (w .0, l) | no n ↦ inr (closed-fits Digit s b .0 (digit-fits b .1 (w .0, omega (arith, w .1)))) ]),
             λ w. ⊎-elim (λ v. (v .0, omega (arith, v .1))) (λ f. let v = back b f in (v .0, omega (arith, v .1))) w,
           ))
         where
           back : (b : List ℕ) → Fits (Of t) b → Fits (Of m) b × (byte b c ≡ 49 + d)
-          back b f = digit-fits b .0 (settled-fits Digit t s b .1 f)
+          back b f = digit-fits b .0 (closed-fits Digit s b .1 f)

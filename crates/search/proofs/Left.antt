@@ -32,10 +32,10 @@ use Rattle.closure.specs.Closure.{Contradiction, With, UnitClosed}
 use Rattle.closure.specs.Marks.{has, IsMarks}
 use Rattle.closure.proofs.Closure.{model-rules, model-consistent}
 use Rattle.closure.proofs.Marks.{has-single, has-literal}
-use Rattle.inference.specs.Steps.{MarksOk}
-use Rattle.inference.proofs.Closing.{pending-closed}
+use Rattle.propagation.specs.Steps.{MarksOk, ClosesTo}
+use Rattle.propagation.specs.declared.close.Reached.the-variants.{Decided}
 use Rattle.search.specs.Completions.{those, completions, InOrder}
-use Rattle.search.specs.Search.{isIn, digitsIn, agrees, left, Settles}
+use Rattle.search.specs.Search.{isIn, digitsIn, agrees, left}
 use Rattle.search.proofs.ByteOrder.{in-order-same, in-order-as, in-order-none, in-order-one, in-order-those}
 use Rattle.search.proofs.Completions.{completions-in-order}
 use Rattle.search.proofs.Marked.{digits-long}
@@ -91,11 +91,11 @@ module _ (G : ℤ → Type 0) where
   pub clash-fits : Contradiction (Least (UnitClosed cs) G) → (b : List ℕ) → Fits G b → ⊥
   clash-fits k b f = model-consistent (truthOf b) cs (model b f) false G (f .keeps) k
 
-  -- and what is settled from G fits the same grids
-  pub settled-fits : (m : List ℕ) → Settles G m → (b : List ℕ) → Fits G b ↔ Fits (Of m) b
-  settled-fits m s b = (
-    (λ f. record { legal = f .legal; keeps = λ l y. s .within l y (holds (truthOf b)) (model-rules (truthOf b) cs (model b f) false) (f .keeps) }),
-    λ f. record { legal = f .legal; keeps = λ l g. f .keeps l (s .holds l g) },
+  -- and what G closes to fits the same grids
+  pub closed-fits : {m a : List ℕ} {d : ℕ} → ClosesTo Extended G m a (Decided d) → (b : List ℕ) → Fits G b ↔ Fits (Of m) b
+  closed-fits s b = (
+    (λ f. record { legal = f .legal; keeps = λ l y. s .answer .within l y (holds (truthOf b)) (model-rules (truthOf b) cs (model b f) false) (f .keeps) }),
+    λ f. record { legal = f .legal; keeps = λ l g. f .keeps l (s .answer .holds l g) },
   )
 
 -- a grid fits marks with a literal more where it fits the marks and has the literal
@@ -131,10 +131,10 @@ module _ (g : List ℕ) where
   pub start-none : Contradiction (Least (UnitClosed cs) Given) → completions g ≡ []
   start-none k = in-order-same (Legal g) (Fits Given) (completions g) [] (completions-in-order g) (in-order-none (Fits Given) (clash-fits Given k)) given-fits
 
-  pub start-left : (m : List ℕ) → Settles Given m → completions g ≡ left m
-  start-left m s =
-      in-order-same (Legal g) (Fits (Of m)) (completions g) (left m) (completions-in-order g) (left-in-order m (s .marks .marks))
-      (λ b. let p = given-fits b in let q = settled-fits Given m s b in ((λ l. q .0 (p .0 l)), λ f. p .1 (q .1 f)))
+  pub start-left : {m a : List ℕ} {d : ℕ} → ClosesTo Extended Given m a (Decided d) → completions g ≡ left m
+  start-left {m} s =
+      in-order-same (Legal g) (Fits (Of m)) (completions g) (left m) (completions-in-order g) (left-in-order m (s .state .marks .marks))
+      (λ b. let p = given-fits b in let q = closed-fits Given s b in ((λ l. q .0 (p .0 l)), λ f. p .1 (q .1 f)))
 
 -- a cell of which a digit is marked has that digit in each grid that fits
 pub fixed : (G : ℤ → Type 0) (b : List ℕ) → Fits G b → (c d : ℕ) → d < 9 → G (pos (suc (9 * c + d))) → byte b c ≡ 49 + d
@@ -146,14 +146,11 @@ module _ (m : List ℕ) (ok : MarksOk Extended m) (full : (c : ℕ) → c < 81 �
   abbrev A : Truth
   A v = has m (pos v)
 
-  closed : UnitClosed cs (has m)
-  closed = pending-closed Extended m (ok .pending)
-
   -- of two places of a pair not both are true
   pair : (s : Shape) (p q : ℕ) → List·Memᴰ (clauseOf s) cs → clauseOf s ≡ negsuc p ∷ negsuc q ∷ [] → T (A (suc p)) → T (A (suc q)) → ⊥
   pair s p q i e y z =
       has-single m (pos (suc q)) z
-      (closed (negsuc p ∷ negsuc q ∷ []) (rw e at i) (negsuc q) (List·Memᴰ·tail (List·Memᴰ·head refl)) (λ x j n.
+      (ok .closed (negsuc p ∷ negsuc q ∷ []) (rw e at i) (negsuc q) (List·Memᴰ·tail (List·Memᴰ·head refl)) (λ x j n.
       ⊎-elim (λ o. rw o y) (λ k. absurd (n (List·Memᴰ·eq-of-singleton k))) (List·Memᴰ·cases-cons j)))
 
   meets : (s : Shape) → IsShape s → InSet Minimal s → Satisfies A (clauseOf s)

@@ -2,7 +2,6 @@ pub mod ByteOrder
 pub mod Completions
 pub mod Found
 pub mod Marked
-pub mod Settling
 pub mod Refuting
 pub mod Left
 pub mod Branches

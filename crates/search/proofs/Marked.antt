@@ -38,7 +38,7 @@ module _ (m : List ℕ) where
   digits-at c h = table-at 0 81 _ c c h (omega arith) ∙ simp add-one
 
   -- an open cell has no digit
-  pub open-none : (c d : ℕ) → d < 9 → T (isOpen m c) → T (isIn m c d) → ⊥
+  open-none : (c d : ℕ) → d < 9 → T (isOpen m c) → T (isIn m c d) → ⊥
   unfolding isOpen
   open-none c d h o t = T-not (isIn m c d) (all-iff 9 _ .0 o d h) t
 

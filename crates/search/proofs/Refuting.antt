@@ -2,13 +2,14 @@
 -- is so of all nine places of a group, the marks leave nothing, since a full grid makes one of them true.
 -- Assumes nothing.
 use mathlib.Core.Path.{_≡_, refl, subst, _∙_}
-use mathlib.Core.Logic.{inl}
+use mathlib.Core.Logic.{inl, inr}
 use mathlib.Core.Bool.{true, false, not}
 use mathlib.Core.List.{List, [], List·Memᴰ, List·Memᴰ·not-nil}
 use Prim.Native.Nat.{ℕ, suc, _<_}
 use native.Mathlib.Omega.{arith}
 use lib.Dec.{T, not-T}
 use lib.IntN.{pos, negsuc}
+use lib.ListN.{getD}
 use Rattle.grid.proofs.Counting.{tally-find}
 use Rattle.clauses.specs.Clauses.{clausesOf}
 use Rattle.clauses.specs.Models.{truthOf}
@@ -20,14 +21,15 @@ use Rattle.clauses.proofs.Members.{member-iff}
 use Rattle.clauses.proofs.Proper.{trueIn, one-of-iff}
 use Rattle.closure.specs.Sets.{Least}
 use Rattle.closure.specs.Closure.{Contradiction, With, UnitClosed}
-use Rattle.closure.specs.Marks.{has, IsMarks}
-use Rattle.closure.proofs.Marks.{decided-rises}
-use Rattle.inference.specs.Steps.{MarksOk}
-use Rattle.search.specs.Search.{left, Settles, SettledOk, Weighs, WeighedOk}
-use Rattle.search.specs.declared.branch.Settled.{Settled}
-use Rattle.search.specs.declared.branch.Settled.the-variants.{Clash, Decided}
+use Rattle.closure.specs.Marks.{has, decided, IsMarks}
+use Rattle.closure.proofs.Marks.{decided-rises, decided-grows}
+use Rattle.propagation.specs.Steps.{StateOk, ClosesTo}
+use Rattle.propagation.specs.declared.close.Reached.{Reached}
+use Rattle.propagation.specs.declared.close.Reached.the-variants.{Clash, Decided}
+use Rattle.propagation.proofs.Sums.{byte-true}
+use Rattle.search.specs.Search.{left, Weighs, WeighedOk}
 use Rattle.search.proofs.ByteOrder.{in-order-same, in-order-none}
-use Rattle.search.proofs.Left.{Fits, Of, model, with-fits, clash-fits, settled-fits, left-in-order}
+use Rattle.search.proofs.Left.{Fits, Of, model, with-fits, clash-fits, closed-fits, left-in-order}
 
 -- no grid that fits the marks has the place true
 abbrev pub Refuted : List ℕ → ℕ → Type 0
@@ -38,10 +40,14 @@ module _ (m : List ℕ) (p : ℕ) where
   pub clash-refutes : Contradiction (Least (UnitClosed (clausesOf Extended)) (With (has m) (pos (suc p)))) → Refuted m p
   clash-refutes k b f y = clash-fits (With (has m) (pos (suc p))) k b (with-fits m (pos (suc p)) b .1 (f, y))
 
-  pub none-refutes : (t : List ℕ) → Settles (With (has m) (pos (suc p))) t → left t ≡ [] → Refuted m p
-  none-refutes t s e b f y =
-      let g = settled-fits (With (has m) (pos (suc p))) t s b .0 (with-fits m (pos (suc p)) b .1 (f, y)) in
-      List·Memᴰ·not-nil (subst (List·Memᴰ b) e (left-in-order t (s .marks .marks) .members b .1 g))
+  pub none-refutes : {t a : List ℕ} {d : ℕ} → ClosesTo Extended (With (has m) (pos (suc p))) t a (Decided d) → left t ≡ [] → Refuted m p
+  none-refutes {t} s e b f y =
+      let g = closed-fits (With (has m) (pos (suc p))) s b .0 (with-fits m (pos (suc p)) b .1 (f, y)) in
+      List·Memᴰ·not-nil (subst (List·Memᴰ b) e (left-in-order t (s .state .marks .marks) .members b .1 g))
+
+  -- a place that was not true decides a variable more
+  pub closed-more : {t a : List ℕ} {d : ℕ} → ClosesTo Extended (With (has m) (pos (suc p))) t a (Decided d) → p < 729 → (getD m p 0 ≡ 1 → ⊥) → decided m < decided t
+  closed-more {t} s h n = decided-grows m t (λ l y. s .answer .holds l (inl y)) (pos (suc p)) h (s .answer .holds (pos (suc p)) (inr refl)) (λ y. n (byte-true m p y))
 
 module _ (m : List ℕ) (i : IsMarks m) where
   -- marks that no grid fits leave nothing
@@ -53,19 +59,16 @@ module _ (m : List ℕ) (i : IsMarks m) where
     struck : (b : List ℕ) → Fits (Of m) b → Fits (With (has m) (negsuc p)) b
     struck b f = with-fits m (negsuc p) b .1 (f, not-T (truthOf b (suc p)) (r b f))
 
-    pub struck-weighs : (t : List ℕ) (r : Settled) → SettledOk (With (has m) (negsuc p)) t r → WeighedOk m t r
-    struck-weighs t Clash k = unfit-left (λ b f. clash-fits (With (has m) (negsuc p)) k b (struck b f))
-    struck-weighs t (Decided d) w =
-        let s = w .0 in (
-          record {
-            marks = s .marks;
-            more = decided-rises m t (λ l y. s .holds l (inl y));
-            same =
-                in-order-same (Fits (Of m)) (Fits (Of t)) (left m) (left t) (left-in-order m i) (left-in-order t (s .marks .marks))
-                (λ b. let q = settled-fits (With (has m) (negsuc p)) t s b in ((λ f. q .0 (struck b f)), λ f. with-fits m (negsuc p) b .0 (q .1 f) .0));
-          },
-          w .1,
-        )
+    pub struck-weighs : (t a : List ℕ) (r : Reached) → ClosesTo Extended (With (has m) (negsuc p)) t a r → WeighedOk m t a r
+    struck-weighs t a Clash s = unfit-left (λ b f. clash-fits (With (has m) (negsuc p)) (s .answer) b (struck b f))
+    struck-weighs t a (Decided d) s =
+        record {
+          state = s .state;
+          more = decided-rises m t (λ l y. s .answer .holds l (inl y));
+          same =
+              in-order-same (Fits (Of m)) (Fits (Of t)) (left m) (left t) (left-in-order m i) (left-in-order t (s .state .marks .marks))
+              (λ b. let q = closed-fits (With (has m) (negsuc p)) s b in ((λ f. q .0 (struck b f)), λ f. with-fits m (negsuc p) b .0 (q .1 f) .0));
+        }
 
   -- a group all of whose places are refuted
   pub group-refutes : (g : Group) → IsGroup g → ((j : ℕ) → j < 9 → Refuted m (placeOf g j)) → left m ≡ []
@@ -79,12 +82,9 @@ pub not-refuted : {A : Type 0} → false ≡ true → A
 not-refuted e = absurd (subst (λ b. T (not b)) e tt)
 
 -- Trials may leave marks as they are, and what they may do once they may do again.
-pub weighs-none : (m : List ℕ) → MarksOk Extended m → Weighs m m
-weighs-none m ok = record { marks = ok; more = omega arith; same = refl }
+pub weighs-none : {m a : List ℕ} {d : ℕ} → StateOk Extended m a d → Weighs m m a d
+weighs-none s = record { state = s; more = omega arith; same = refl }
 
-pub weighs-again : (m t u : List ℕ) → Weighs m t → Weighs t u → Weighs m u
-weighs-again m t u v w = record { marks = w .marks; more = omega (arith, v .more, w .more); same = v .same ∙ w .same }
-
-pub weighed-again : (m t u : List ℕ) (r : Settled) → Weighs m t → WeighedOk t u r → WeighedOk m u r
-weighed-again m t u Clash v e = v .same ∙ e
-weighed-again m t u (Decided d) v w = (weighs-again m t u v (w .0), w .1)
+pub weighed-again : {m t a : List ℕ} {d : ℕ} (u b : List ℕ) (r : Reached) → Weighs m t a d → WeighedOk t u b r → WeighedOk m u b r
+weighed-again u b Clash v e = v .same ∙ e
+weighed-again u b (Decided d) v w = record { state = w .state; more = omega (arith, v .more, w .more); same = v .same ∙ w .same }

@@ -4,21 +4,17 @@ use mathlib.Core.Bool.{Bool, cond, not}
 use mathlib.Core.List.{List, []}
 use Prim.Native.Nat.{ℕ, suc, _+_, _*_, _≤_, min}
 use lib.Dec.{eqb}
-use lib.IntN.{ℤ, pos}
+use lib.IntN.{pos}
 use lib.ListN.{length, getD, replicate}
-use Rattle.grid.specs.Counting.{tally, all}
-use Rattle.clauses.specs.Clauses.{clausesOf}
+use Rattle.grid.specs.Counting.{tally, all, leastFrom}
 use Rattle.clauses.specs.Models.{truthOf, pick, completionOf}
 use Rattle.clauses.specs.declared.ClauseSet.the-variants.{Extended}
-use Rattle.closure.specs.Sets.{Holds, Within, Least}
-use Rattle.closure.specs.Closure.{Contradiction, UnitClosed}
 use Rattle.closure.specs.Marks.{has, decided}
-use Rattle.inference.specs.Order.{leastFrom}
-use Rattle.inference.specs.Steps.{MarksOk}
+use Rattle.propagation.specs.Steps.{StateOk}
+use Rattle.propagation.specs.declared.close.Reached.{Reached}
+use Rattle.propagation.specs.declared.close.Reached.the-variants.{Clash, Decided}
 use Rattle.search.specs.Completions.{those, completions}
 use Rattle.search.specs.declared.find.Found.{Found}
-use Rattle.search.specs.declared.branch.Settled.{Settled}
-use Rattle.search.specs.declared.branch.Settled.the-variants.{Clash, Decided}
 use Rattle.search.specs.declared.refute.Tried.{Tried}
 use Rattle.search.specs.declared.refute.Tried.the-variants.{Refuted, Full, Spent}
 
@@ -62,27 +58,16 @@ agrees m b = all 729 (λ k. cond (truthOf b (suc k)) (not (eqb (getD m k 0) 2)) 
 unfoldable pub left : List ℕ → List (List ℕ)
 left m = those (agrees m) (completions [])
 
--- What closing the literals G leaves: marks that have G, that the unit rule closes, and that have nothing but what the unit rule finds.
-pub record Settles (G : ℤ → Type 0) (m : List ℕ) : Type 0 where
-  pub marks : MarksOk Extended m
-  pub holds : Holds G (has m)
-  pub within : Within (has m) (Least (UnitClosed (clausesOf Extended)) G)
-
--- it is a contradiction, or leaves such marks, with the number that they decide
-abbrev pub SettledOk : (ℤ → Type 0) → List ℕ → Settled → Type 0
-SettledOk G m Clash = Contradiction (Least (UnitClosed (clausesOf Extended)) G)
-SettledOk G m (Decided d) = Settles G m × (d ≡ decided m)
-
--- What trials may do to marks: nothing is pending, no fewer variables are decided, and what was left is left.
-pub record Weighs (m m' : List ℕ) : Type 0 where
-  pub marks : MarksOk Extended m'
+-- What trials may do to marks: a state is left, no fewer variables are decided, and what was left is left.
+pub record Weighs (m m' a' : List ℕ) (d' : ℕ) : Type 0 where
+  pub state : StateOk Extended m' a' d'
   pub more : decided m ≤ decided m'
   pub same : left m ≡ left m'
 
--- they show that nothing is left, or leave such marks, with the number that they decide
-abbrev pub WeighedOk : List ℕ → List ℕ → Settled → Type 0
-WeighedOk m m' Clash = left m ≡ []
-WeighedOk m m' (Decided d) = Weighs m m' × (d ≡ decided m')
+-- they show that nothing is left, or leave such marks, with their sums and the number that they decide
+abbrev pub WeighedOk : List ℕ → List ℕ → List ℕ → Reached → Type 0
+WeighedOk m m' a' Clash = left m ≡ []
+WeighedOk m m' a' (Decided d) = Weighs m m' a' d
 
 -- what an attempt to refute marks promises: where it does, they leave nothing
 abbrev pub TriedOk : List ℕ → Tried → Type 0

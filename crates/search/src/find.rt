@@ -1,17 +1,17 @@
 // The complete search: branching on the first open cell, digits rising, so that completions are found in byte order. A branch is entered
 // unless a test refutes it; of that test only this is used, that what it refutes leaves nothing.
-use crate::branch::Settled;
-use crate::branch::assume;
-use crate::branch::start;
 use crate::refute::refuted;
+use clauses::ClauseSet;
+use propagation::close::Reached;
+use propagation::close::close_givens;
+use propagation::close::close_true;
 ghost use mathlib.Core.Path.{_≡_};
 ghost use mathlib.Core.Bool.{true};
 ghost use mathlib.Core.List.{List, _++_};
 ghost use Prim.Native.Nat.{ℕ, _<_};
 ghost use lib.ListN.{length};
 ghost use Rattle.clauses.specs.declared.ClauseSet.the-variants.{Extended};
-ghost use Rattle.closure.specs.Marks.{decided as decisions};
-ghost use Rattle.inference.specs.Steps.{MarksOk};
+ghost use Rattle.propagation.specs.Steps.{StateOk};
 ghost use Rattle.search.specs.Completions.{completions};
 ghost use Rattle.search.specs.Search.{foundOf, isOpen, firstOpen, digitIn, digitsIn, left};
 
@@ -117,19 +117,21 @@ fn digits_in(marks: &[u8; 729]) -> [u8; 81]
 // test; where they are tested and something is left, it becomes the guess.
 fn ruled_out(
     marks: &[u8; 729],
+    sums: &[u16; 324],
+    list: &mut [u16; 2916],
     decided: usize,
     guess: &mut [u8; 729],
     failures: &mut [u32; 729],
     place: usize,
 ) -> bool
-    requires { ⌜ MarksOk Extended (now marks) × (decided ≡ decisions (now marks)) × (place < 729) ⌝ }
+    requires { ⌜ StateOk Extended (now marks) (now sums) decided × (place < 729) ⌝ }
     ensures { λ r. ⌜ (r ≡ true → left (now (marks .entry)) ≡ List.[]) ⌝ }
 {
     if guess[place] == 1 {
         return false;
     }
     let mut near = *marks;
-    if refuted(&mut near, decided, failures) {
+    if refuted(&mut near, sums, list, decided, failures) {
         return true;
     }
     *guess = near;
@@ -139,11 +141,13 @@ fn ruled_out(
 // All that the marks leave: each digit of the first open cell is tried, until two completions are found. Each branch has fewer cells open.
 fn explore(
     marks: &[u8; 729],
+    sums: &[u16; 324],
+    list: &mut [u16; 2916],
     decided: usize,
     guess: &mut [u8; 729],
     failures: &mut [u32; 729],
 ) -> Found
-    requires { ⌜ MarksOk Extended (now marks) × (decided ≡ decisions (now marks)) ⌝ }
+    requires { ⌜ StateOk Extended (now marks) (now sums) decided ⌝ }
     ensures { λ r. ⌜ r ≡ foundOf (left (now (marks .entry))) ⌝ }
 {
     let cell = first_open(marks);
@@ -160,12 +164,21 @@ fn explore(
     while digit < 9 {
         let place = 9 * cell + digit;
         let mut next = *marks;
-        let assumed = assume(&mut next, decided, place);
+        let mut next_sums = *sums;
+        let assumed = close_true(
+            &mut next,
+            &mut next_sums,
+            list,
+            decided,
+            ClauseSet::Extended,
+            place,
+        );
         match assumed {
-            Settled::Clash => {}
-            Settled::Decided(known) => {
-                if !ruled_out(&next, known, guess, failures, place) {
-                    found = followed(found, explore(&next, known, guess, failures));
+            Reached::Clash => {}
+            Reached::Decided(known) => {
+                if !ruled_out(&next, &next_sums, list, known, guess, failures, place) {
+                    let more = explore(&next, &next_sums, list, known, guess, failures);
+                    found = followed(found, more);
                     if found.count == 2 {
                         return found;
                     }
@@ -183,16 +196,18 @@ pub fn find(grid: &[u8]) -> Found
     ensures { λ r. ⌜ r ≡ foundOf (completions (now (grid .entry))) ⌝ }
 {
     let mut marks = [0u8; 729];
-    let started = start(&mut marks, grid);
+    let mut sums = [0u16; 324];
+    let mut list = [0u16; 2916];
+    let started = close_givens(&mut marks, &mut sums, &mut list, ClauseSet::Extended, grid);
     match started {
-        Settled::Clash => none(),
-        Settled::Decided(decided) => {
+        Reached::Clash => none(),
+        Reached::Decided(decided) => {
             let mut guess = marks;
             let mut failures = [0u32; 729];
-            if refuted(&mut guess, decided, &mut failures) {
+            if refuted(&mut guess, &sums, &mut list, decided, &mut failures) {
                 return none();
             }
-            explore(&marks, decided, &mut guess, &mut failures)
+            explore(&marks, &sums, &mut list, decided, &mut guess, &mut failures)
         }
     }
 }

@@ -3,9 +3,7 @@
 //     search          the search call: none, one or several completions, and the smallest two
 //     SearchAnswer    what it answers
 //     find            what the search finds, in byte order
-//     branch          the unit closure of marks with a literal more
 //     refute          a test whether marks leave nothing
-mod branch;
 pub mod find;
 mod refute;
 

@@ -1,21 +1,21 @@
 // A test whether marks leave no legal full grid. It is a search of its own, which needs one full grid and not the smallest, so that it may
 // branch where the tree looks smallest: on any group of nine places of which a full grid makes one true. First it dives for a full grid; then
 // each place is tried, and what the trial decides tells how large the tree below it may be. All that is promised is that marks which are
-// refuted leave nothing.
-use crate::branch::Settled;
-use crate::branch::assume;
-use crate::branch::join;
+// refuted leave nothing. Marks go with the sums of their clauses; the list is lent to the closures for their work alone.
+use clauses::ClauseSet;
 use clauses::Group;
 use clauses::decode::place;
 use clauses::literal;
+use propagation::close::Reached;
+use propagation::close::close_true;
+use propagation::close::close_with;
 ghost use mathlib.Core.Path.{_≡_};
 ghost use mathlib.Core.Bool.{true};
 ghost use mathlib.Core.List.{List};
 ghost use Prim.Native.Nat.{_<_, _≤_};
 ghost use Rattle.clauses.specs.Shape.{IsGroup};
 ghost use Rattle.clauses.specs.declared.ClauseSet.the-variants.{Extended};
-ghost use Rattle.closure.specs.Marks.{decided as decisions};
-ghost use Rattle.inference.specs.Steps.{MarksOk};
+ghost use Rattle.propagation.specs.Steps.{StateOk};
 ghost use Rattle.search.specs.Search.{left, WeighedOk, TriedOk};
 
 // How many groups there are: the cells, then each house for each digit.
@@ -100,8 +100,13 @@ fn open_place(marks: &[u8; 729], group: Group) -> usize
 }
 
 // Whether the marks become those of a full grid by a digit in each open cell, the cell with the fewest left first.
-fn dive(marks: &mut [u8; 729], decided: usize) -> bool
-    requires { ⌜ MarksOk Extended (now marks) × (decided ≡ decisions (now marks)) ⌝ }
+fn dive(
+    marks: &mut [u8; 729],
+    sums: &mut [u16; 324],
+    list: &mut [u16; 2916],
+    decided: usize,
+) -> bool
+    requires { ⌜ StateOk Extended (now marks) (now sums) decided ⌝ }
 {
     let even = [1u32; 729];
     let never = [0u32; 729];
@@ -115,12 +120,12 @@ fn dive(marks: &mut [u8; 729], decided: usize) -> bool
         if marks[p] != 0 {
             return false;
         }
-        let assumed = assume(marks, known, p);
+        let assumed = close_true(marks, sums, list, known, ClauseSet::Extended, p);
         match assumed {
-            Settled::Clash => {
+            Reached::Clash => {
                 return false;
             }
-            Settled::Decided(more) => {
+            Reached::Decided(more) => {
                 known = more;
             }
         }
@@ -141,24 +146,41 @@ fn weight(decided: usize) -> u32 {
 // A trial of a place: where it fails, the place becomes false; else its weight is noted.
 fn weigh_place(
     marks: &mut [u8; 729],
+    sums: &mut [u16; 324],
+    list: &mut [u16; 2916],
     decided: usize,
     weights: &mut [u32; 729],
     place: usize,
-) -> Settled
-    requires { ⌜ MarksOk Extended (now marks) × (decided ≡ decisions (now marks)) × (place < 729) ⌝ }
-    ensures { λ r. ⌜ WeighedOk (now (marks .entry)) (now (marks .exit)) r ⌝ }
+) -> Reached
+    requires { ⌜ StateOk Extended (now marks) (now sums) decided × (place < 729) ⌝ }
+    ensures { λ r. ⌜ WeighedOk (now (marks .entry)) (now (marks .exit)) (now (sums .exit)) r ⌝ }
 {
     if marks[place] != 0 {
-        return Settled::Decided(decided);
+        return Reached::Decided(decided);
     }
     let mut with = *marks;
-    let tried = assume(&mut with, decided, place);
+    let mut with_sums = *sums;
+    let tried = close_true(
+        &mut with,
+        &mut with_sums,
+        list,
+        decided,
+        ClauseSet::Extended,
+        place,
+    );
     match tried {
-        Settled::Decided(known) => {
+        Reached::Decided(known) => {
             weights[place] = weight(known - decided);
-            Settled::Decided(decided)
+            Reached::Decided(decided)
         }
-        Settled::Clash => join(marks, decided, literal::negative(place)),
+        Reached::Clash => close_with(
+            marks,
+            sums,
+            list,
+            decided,
+            ClauseSet::Extended,
+            literal::negative(place),
+        ),
     }
 }
 
@@ -174,48 +196,52 @@ fn counted(failures: u32) -> u32 {
 // A trial of each place with at least so many failures. It ends at a place that can be neither true nor false.
 fn weigh_from(
     marks: &mut [u8; 729],
+    sums: &mut [u16; 324],
+    list: &mut [u16; 2916],
     decided: usize,
     weights: &mut [u32; 729],
     failures: &mut [u32; 729],
     least: u32,
-) -> Settled
-    requires { ⌜ MarksOk Extended (now marks) × (decided ≡ decisions (now marks)) ⌝ }
-    ensures { λ r. ⌜ WeighedOk (now (marks .entry)) (now (marks .exit)) r ⌝ }
+) -> Reached
+    requires { ⌜ StateOk Extended (now marks) (now sums) decided ⌝ }
+    ensures { λ r. ⌜ WeighedOk (now (marks .entry)) (now (marks .exit)) (now (sums .exit)) r ⌝ }
 {
     let mut known = decided;
     let mut p = 0;
     while p < 729 {
         if least <= failures[p] {
-            let weighed = weigh_place(marks, known, weights, p);
+            let weighed = weigh_place(marks, sums, list, known, weights, p);
             match weighed {
-                Settled::Clash => {
+                Reached::Clash => {
                     failures[p] = counted(failures[p]);
-                    return Settled::Clash;
+                    return Reached::Clash;
                 }
-                Settled::Decided(more) => {
+                Reached::Decided(more) => {
                     known = more;
                 }
             }
         }
         p += 1;
     }
-    Settled::Decided(known)
+    Reached::Decided(known)
 }
 
 // A trial of each place: first of those at which the test has failed before.
 fn weigh(
     marks: &mut [u8; 729],
+    sums: &mut [u16; 324],
+    list: &mut [u16; 2916],
     decided: usize,
     weights: &mut [u32; 729],
     failures: &mut [u32; 729],
-) -> Settled
-    requires { ⌜ MarksOk Extended (now marks) × (decided ≡ decisions (now marks)) ⌝ }
-    ensures { λ r. ⌜ WeighedOk (now (marks .entry)) (now (marks .exit)) r ⌝ }
+) -> Reached
+    requires { ⌜ StateOk Extended (now marks) (now sums) decided ⌝ }
+    ensures { λ r. ⌜ WeighedOk (now (marks .entry)) (now (marks .exit)) (now (sums .exit)) r ⌝ }
 {
-    let first = weigh_from(marks, decided, weights, failures, 1);
+    let first = weigh_from(marks, sums, list, decided, weights, failures, 1);
     match first {
-        Settled::Clash => Settled::Clash,
-        Settled::Decided(known) => weigh_from(marks, known, weights, failures, 0),
+        Reached::Clash => Reached::Clash,
+        Reached::Decided(known) => weigh_from(marks, sums, list, known, weights, failures, 0),
     }
 }
 
@@ -230,26 +256,29 @@ pub(crate) enum Tried {
 // An attempt with so many nodes.
 fn refute_within(
     marks: &mut [u8; 729],
+    sums: &mut [u16; 324],
+    list: &mut [u16; 2916],
     decided: usize,
     failures: &mut [u32; 729],
     nodes: u32,
 ) -> Tried
-    requires { ⌜ MarksOk Extended (now marks) × (decided ≡ decisions (now marks)) ⌝ }
+    requires { ⌜ StateOk Extended (now marks) (now sums) decided ⌝ }
     ensures { λ r. ⌜ TriedOk (now (marks .entry)) r ⌝ }
 {
     if nodes == 0 {
         return Tried::Spent;
     }
     let mut full = *marks;
-    if dive(&mut full, decided) {
+    let mut full_sums = *sums;
+    if dive(&mut full, &mut full_sums, list, decided) {
         *marks = full;
         return Tried::Full;
     }
     let mut weights = [0u32; 729];
-    let weighed = weigh(marks, decided, &mut weights, failures);
+    let weighed = weigh(marks, sums, list, decided, &mut weights, failures);
     match weighed {
-        Settled::Clash => Tried::Refuted(nodes - 1),
-        Settled::Decided(known) => {
+        Reached::Clash => Tried::Refuted(nodes - 1),
+        Reached::Decided(known) => {
             let i = lightest(&*marks, &weights, &*failures, GROUPS);
             if i == GROUPS {
                 return Tried::Full;
@@ -263,11 +292,26 @@ fn refute_within(
                     return Tried::Spent;
                 }
                 let mut next = *marks;
-                let assumed = assume(&mut next, known, p);
+                let mut next_sums = *sums;
+                let assumed = close_true(
+                    &mut next,
+                    &mut next_sums,
+                    list,
+                    known,
+                    ClauseSet::Extended,
+                    p,
+                );
                 match assumed {
-                    Settled::Clash => {}
-                    Settled::Decided(more) => {
-                        let tried = refute_within(&mut next, more, failures, rest);
+                    Reached::Clash => {}
+                    Reached::Decided(more) => {
+                        let tried = refute_within(
+                            &mut next,
+                            &mut next_sums,
+                            list,
+                            more,
+                            failures,
+                            rest,
+                        );
                         match tried {
                             Tried::Refuted(n) => {
                                 rest = n;
@@ -291,14 +335,21 @@ fn refute_within(
 
 // Whether the marks are shown to leave nothing. Where they are not, they become those of a full grid that they leave, unless all attempts
 // are spent. Each attempt has a third more nodes than the one before, and goes by where that one failed.
-pub(crate) fn refuted(marks: &mut [u8; 729], decided: usize, failures: &mut [u32; 729]) -> bool
-    requires { ⌜ MarksOk Extended (now marks) × (decided ≡ decisions (now marks)) ⌝ }
+pub(crate) fn refuted(
+    marks: &mut [u8; 729],
+    sums: &[u16; 324],
+    list: &mut [u16; 2916],
+    decided: usize,
+    failures: &mut [u32; 729],
+) -> bool
+    requires { ⌜ StateOk Extended (now marks) (now sums) decided ⌝ }
     ensures { λ r. ⌜ (r ≡ true → left (now (marks .entry)) ≡ List.[]) ⌝ }
 {
     let mut nodes = 12u32;
     while nodes < 16777216 {
         let mut near = *marks;
-        let tried = refute_within(&mut near, decided, failures, nodes);
+        let mut near_sums = *sums;
+        let tried = refute_within(&mut near, &mut near_sums, list, decided, failures, nodes);
         match tried {
             Tried::Refuted(_) => {
                 return true;

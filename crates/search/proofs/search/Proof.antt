@@ -7,7 +7,7 @@ use borrow.Author.Needs.{needs}
 use Rattle.grid.specs.Refusals.{onAccepted}
 use Rattle.grid.specs.declared.Checked.{Checked}
 use Rattle.grid.specs.declared.Checked.the-variants as check
-use Rattle.inference.proofs.Calls.{accepted-long}
+use Rattle.grid.proofs.Completion.{accepted-long}
 use Rattle.search.specs.Completions.{completions}
 use Rattle.search.specs.Search.{foundOf}
 use Rattle.search.specs.Call.{counted, refused, searchCall}

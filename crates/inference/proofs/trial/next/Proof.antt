@@ -1,4 +1,4 @@
--- Skipped, stopped, or tried.
+-- Skipped, stopped, known or tried.
 use mathlib.Core.Path.{_≡_, ap, sym, subst, _∙_}
 use mathlib.Core.List.{List}
 use Prim.Native.Nat.{ℕ, _+_, _<_}
@@ -7,22 +7,20 @@ use borrow.Author.Needs.{needs}
 use lib.Dec.{T}
 use lib.IntN.{ℤ, negℤ}
 use lib.ListN.{getD}
-use mir.Syntax.{w32}
-use mir.Val.{Fits}
 use Rattle.clauses.specs.Clauses.{clausesOf}
 use Rattle.clauses.specs.Literal.{Literal, markIndex}
+use Rattle.clauses.specs.declared.ClauseSet.{ClauseSet}
 use Rattle.clauses.proofs.Signed.{read}
 use Rattle.closure.specs.Marks.{isDecided, mark, decided}
-use Rattle.closure.proofs.Marks.{decided-bounded}
 use Rattle.closure.specs.Propagation.{unitClosure}
-use Rattle.closure.specs.Job.{Step, Walk, after, try, step, walked}
-use Rattle.inference.specs.Steps.{triedOf, TriedOk}
-use Rattle.inference.specs.Trail.{placeAt}
+use Rattle.closure.specs.Job.{Step, Walk, after, try, step, walked, kept}
+use Rattle.propagation.proofs.Literals.{placeAt, place-below, index-place, byte-open}
+use Rattle.inference.specs.Known.{Names, Named}
+use Rattle.inference.specs.Steps.{triedOf, TriedOk, Walking}
 use Rattle.inference.specs.declared.trial.Shown.{Shown}
 use Rattle.inference.specs.declared.trial.Shown.the-variants.{Kept, Refuted, Broken}
-use Rattle.inference.proofs.Closing.{index-place}
-use Rattle.inference.proofs.Moves.{place-below}
-use Rattle.inference.proofs.Trying.{byte-decided, byte-open, next-skip, next-halt, next-tried, next-solved, next-more}
+use Rattle.inference.proofs.Knowing.{known-kept, possible-known}
+use Rattle.inference.proofs.Trying.{byte-decided, next-skip, next-halt, next-tried, next-solved, next-more}
 use Rattle.inference.proofs.trial.next.Statement.{statement}
 use Rattle.inference.proofs.trial.next.Tie as tie
 
@@ -41,110 +39,134 @@ module _ (a : tie.Start) where
   abbrev thereafter : Step → Walk
   thereafter s = after s marks (a .args .count) (a .args .failed) (λ t k b. walked t k b)
 
+is-index : (c : tie.After-mark-index) → c .mark-index .result ≡ markIndex (l (c .before))
+is-index c = let a = c .before in c .mark-index .ensures ∙ ap markIndex (read (l a) (a .fits .literal))
+
 is-place : (c : tie.After-mark-index) → c .mark-index .result ≡ placeAt (l (c .before))
-is-place c = let a = c .before in c .mark-index .ensures ∙ ap markIndex (read (l a) (a .fits .literal)) ∙ index-place (l a) (a .pre .2)
+is-place c = let a = c .before in is-index c ∙ index-place (l a) (a .pre .1)
 
 small : (c : tie.After-mark-index) → c .mark-index .result < 729
-small c = omega (arith, is-place c, place-below (l (c .before)) (c .before .pre .2))
+small c = omega (arith, is-place c, place-below (l (c .before)) (c .before .pre .1))
 
 returns : tie.Need-returns
 returns c =
     let d = c .before .before in
     let a = d .before in
-    let t = byte-decided (marks a) (a .pre .0 .marks) (l a) (a .pre .2) (λ e. c .if1 .taken (ap (λ x. getD (marks a) x 0) (is-place d) ∙ e)) in
-    (next-skip (clausesOf (a .args .set)) (a .args .ceiling) (marks a) (a .args .count) (l a) (a .args .failed) t, a .pre .0, (a .pre .3, a .pre .1))
+    let t = byte-decided (marks a) (a .pre .0 .state .marks .marks) (l a) (a .pre .1) (λ e. c .if1 .taken (ap (λ x. getD (marks a) x 0) (is-place d) ∙ e)) in
+    (next-skip (clausesOf (a .args .set)) (a .args .ceiling) (marks a) (a .args .count) (l a) (a .args .failed) t, (a .pre .2, a .pre .0))
 
 -- the variable is not decided
 undecided : (c : tie.Else1) → T (isDecided (marks (c .before .before .before)) (l (c .before .before .before))) → ⊥
 undecided c =
     let d = c .before .before in
     let a = d .before in
-    byte-open (marks a) (l a) (a .pre .2) (ap (λ x. getD (marks a) x 0) (sym (is-place d)) ∙ c .if1 .left)
+    byte-open (marks a) (l a) (a .pre .1) (ap (λ x. getD (marks a) x 0) (sym (is-place d)) ∙ c .if1 .left)
 
 returns-2 : tie.Need-returns-2
 returns-2 c =
     let a = c .before .before .before .before in
-    (next-halt (clausesOf (a .args .set)) (a .args .ceiling) (marks a) (a .args .count) (l a) (a .args .failed) (undecided (c .before)) (omega (arith, c .if2 .taken, a .pre .3)), a .pre .0, a .pre .1)
+    (next-halt (clausesOf (a .args .set)) (a .args .ceiling) (marks a) (a .args .count) (l a) (a .args .failed) (undecided (c .before)) (omega (arith, c .if2 .taken, a .pre .2)), a .pre .0 .state .count)
+
+-- a trial is due, and there is room for it
+module _ (c : tie.Else2) where
+  abbrev due : tie.Start
+  due = c .before .before .before .before
+
+  below : due .args .count < due .args .ceiling
+  below = omega (arith, due .pre .2, c .if2 .left)
+
+  -- what a trial shows, in the steps
+  shows : (s : Step) → s ≡ try (unitClosure (clausesOf (due .args .set)) (mark (marks due) (l due))) (λ u. unitClosure (clausesOf (due .args .set)) (mark (marks due) (negℤ (l due)))) → thereafter due s ≡ Next due
+  shows s e = next-tried (clausesOf (due .args .set)) (due .args .ceiling) (marks due) (due .args .count) (l due) (due .args .failed) (undecided (c .before)) (λ q. omega (arith, below, q)) s e
+
+returns-3 : tie.Need-returns-3
+returns-3 c =
+    let n = c .before in
+    let e = n .before .before in
+    let a = due e in
+    let named : Named (a .args .known .now) (l a) =
+    subst (λ p. Names (getD (a .args .known .now) p 0) (l a)) (is-index (e .before .before .before)) (subst (Names (getD (a .args .known .now) (e .before .before .before .mark-index .result) 0)) (read (l a) (a .fits .literal)) (n .is-named .ensures (c .if3 .taken))) in (
+      shows e kept (known-kept (a .args .set) (marks a) (l a) (a .pre .1) (undecided (e .before)) (a .pre .0 .known .succeeds (l a) (a .pre .1) named) (λ u. unitClosure (clausesOf (a .args .set)) (mark (marks a) (negℤ (l a))))),
+      (omega (arith, below e), a .pre .0),
+    )
 
 attempt-requires : tie.Need-attempt-requires
 attempt-requires c κs =
-    let a = c .before .before .before .before .before in
+    let e = c .before .before .before .before .before .before .before in
+    let a = due e in
     let r = read (l a) (a .fits .literal) in
-    (a .pre .0, subst Literal (sym r) (a .pre .2), subst (λ x. T (isDecided (marks a) x) → ⊥) (sym r) (undecided (c .before .before)))
+    (a .pre .0 .state, a .pre .0 .known, subst Literal (sym r) (a .pre .1), subst (λ x. T (isDecided (marks a) x) → ⊥) (sym r) (undecided (e .before)))
 
 module _ (c : tie.After-attempt) where
   abbrev tested : tie.Else2
-  tested = c .before .before
+  tested = c .before .before .before .before .before .before .before .before
 
   abbrev first : tie.Start
-  first = tested .before .before .before .before
+  first = due tested
 
   abbrev m' : List ℕ
   m' = c .attempt .last .0
 
-  -- there is room for one trial more
-  below : first .args .count < first .args .ceiling
-  below = omega (arith, first .pre .3, tested .if2 .left)
-
-  -- what the trial shows, in the steps
   tried : (s : Shown) → c .attempt .result ≡ s → thereafter first (triedOf s m') ≡ Next first
   tried s e =
       let cs = clausesOf (first .args .set) in
-      next-tried cs (first .args .ceiling) (marks first) (first .args .count) (l first) (first .args .failed) (undecided (tested .before)) (λ q. omega (arith, below, q)) (triedOf s m')
-      (ap (λ x. triedOf x m') (sym e) ∙ c .attempt .ensures .0
+      shows tested (triedOf s m') (ap (λ x. triedOf x m') (sym e) ∙ c .attempt .ensures .0
       ∙ ap (λ x. try (unitClosure cs (mark (marks first) x)) (λ u. unitClosure cs (mark (marks first) (negℤ x)))) (read (l first) (first .fits .literal)))
 
   -- what it leaves
-  left : (s : Shown) → c .attempt .result ≡ s → TriedOk (marks first) m' s
-  left s e = subst (TriedOk (marks first) m') e (c .attempt .ensures .2)
+  left : (s : Shown) → c .attempt .result ≡ s → TriedOk (first .args .set) (marks first) (first .args .sums .now) m' (c .attempt .last .1 .0) (c .attempt .last .1 .1 .1 .0) s
+  left s e = subst (TriedOk (first .args .set) (marks first) (first .args .sums .now) m' (c .attempt .last .1 .0) (c .attempt .last .1 .1 .1 .0)) e (c .attempt .ensures .1)
 
-  room : Fits w32 (first .args .count + 1)
-  room = omega (arith, below, first .fits .ceiling)
-
--- where the negation has joined, the sum is the number decided
-sum-is : (c : tie.After-shown) → let d = c .before .before in first d .args .decided + c .shown .given .0 .0 ≡ decided (m' d)
-sum-is c = let d = c .before .before in omega (arith, first d .pre .1, left d (Refuted (c .shown .given .0 .0)) (c .shown .given .1))
-
--- it fits
-add-sum : tie.Need-add-sum
-add-sum c = omega (arith, sum-is (c .before), decided-bounded (m' (c .before .before .before)))
-
-returns-3 : tie.Need-returns-3
-returns-3 c =
-    let e = c .before .before in
-    let d = e .before .before in
-    let a = first d in (
-      next-solved (marks a) (m' d) (a .args .count) (a .args .failed) (sym (sum-is e) ∙ c .if3 .taken) ∙ tried d (Refuted (e .shown .given .0 .0)) (e .shown .given .1),
-      d .attempt .ensures .1,
-      sum-is e,
-    )
-
--- marks that are as they were
-unchanged : (c : tie.After-attempt) → m' c ≡ marks (first c) → first c .args .decided ≡ decided (m' c)
-unchanged c e = first c .pre .1 ∙ ap decided (sym e)
+-- where the negation has joined
+joined : (c : tie.After-shown) → let d = c .before .before in TriedOk (first d .args .set) (marks (first d)) (first d .args .sums .now) (m' d) (d .attempt .last .1 .0) (d .attempt .last .1 .1 .1 .0) (Refuted (c .shown .given .0 .0))
+joined c = left (c .before .before) (Refuted (c .shown .given .0 .0)) (c .shown .given .1)
 
 returns-4 : tie.Need-returns-4
 returns-4 c =
-    let d = c .before .before in
-    let a = first d in
-    let e = left d Kept (c .enum-told .given .1) in
-    (ap (λ x. walked x (a .args .count + 1) (a .args .failed)) e ∙ tried d Kept (c .enum-told .given .1), d .attempt .ensures .1, (omega (arith, below d), unchanged d e))
-
-returns-5 : tie.Need-returns-5
-returns-5 c = let d = c .before .before in (tried d Broken (c .enum-told2 .given .1), d .attempt .ensures .1, unchanged d (left d Broken (c .enum-told2 .given .1)))
-
-returns-6 : tie.Need-returns-6
-returns-6 c =
     let e = c .before .before in
     let d = e .before .before in
     let a = first d in (
-      next-more (marks a) (m' d) (a .args .count) (a .args .failed) (λ x. c .if3 .left (sum-is e ∙ x)) ∙ tried d (Refuted (e .shown .given .0 .0)) (e .shown .given .1),
-      d .attempt .ensures .1,
-      (omega (arith, below d), sum-is e),
+      next-solved (marks a) (m' d) (a .args .count) (a .args .failed) (sym (joined e .0 .count) ∙ c .if4 .taken) ∙ tried d (Refuted (e .shown .given .0 .0)) (e .shown .given .1),
+      joined e .0 .count,
+    )
+
+-- marks and sums that are as they were
+walking-same : (s : ClauseSet) {m m' a a' ks ps : List ℕ} {d : ℕ} → m' ≡ m → a' ≡ a → Walking s m a ks ps d → Walking s m' a' ks ps d
+walking-same s {m} {m'} {a} {a'} {ks} {ps} {d} e f w = subst (λ y. Walking s y a' ks ps d) (sym e) (subst (λ y. Walking s m y ks ps d) (sym f) w)
+
+returns-5 : tie.Need-returns-5
+returns-5 c =
+    let d = c .before .before in
+    let a = first d in
+    let w = left d Kept (c .enum-told .given .1) in (
+      ap (λ x. walked x (a .args .count + 1) (a .args .failed)) (w .0) ∙ tried d Kept (c .enum-told .given .1),
+      (
+        omega (arith, below (tested d)),
+        walking-same (a .args .set) (w .0) (w .1) (record { state = a .pre .0 .state; known = w .2; possible = a .pre .0 .possible }),
+      ),
+    )
+
+returns-6 : tie.Need-returns-6
+returns-6 c =
+    let d = c .before .before in
+    let a = first d in
+    (tried d Broken (c .enum-told2 .given .1), a .pre .0 .state .count ∙ ap decided (sym (left d Broken (c .enum-told2 .given .1))))
+
+returns-7 : tie.Need-returns-7
+returns-7 c =
+    let e = c .before .before .before in
+    let d = e .before .before in
+    let a = first d in
+    let w = joined e in
+    let p = w .1 (a .args .possible .now) (a .pre .0 .possible) in (
+      next-more (marks a) (m' d) (a .args .count) (a .args .failed) (λ x. c .before .if4 .left (w .0 .count ∙ x)) ∙ tried d (Refuted (e .shown .given .0 .0)) (e .shown .given .1),
+      (omega (arith, below (tested d)), record { state = w .0; known = possible-known (a .args .set) (m' d) p; possible = p }),
     )
 
 pub next-spec : {M : Type 1} → statement M
 next-spec =
     tie.close
-    (tie.spec (λ c κs. search needs) small returns returns-2 attempt-requires (λ c. search needs) (λ c. room (c .before .before)) (λ c. search needs) (λ c. room (c .before .before))
-    (λ c. search needs) add-sum (λ c. room (c .before .before .before .before)) returns-3 (λ c. room (c .before .before .before .before)) returns-4 returns-5 returns-6)
+    (tie.spec (λ c κs. search needs) small returns returns-2 (λ c. small (c .before .before .before)) (λ c κs. search needs) (λ c. omega (arith, below (c .before .before .before), due (c .before .before .before) .fits .ceiling)) returns-3
+    attempt-requires (λ c. search needs) (λ c. omega (arith, below (tested (c .before .before)), first (c .before .before) .fits .ceiling)) (λ c. search needs)
+    (λ c. omega (arith, below (tested (c .before .before)), first (c .before .before) .fits .ceiling)) (λ c. search needs) (λ c. omega (arith, below (tested (c .before .before .before .before)), first (c .before .before .before .before) .fits .ceiling)) returns-4
+    (λ c. omega (arith, below (tested (c .before .before .before .before .before)), first (c .before .before .before .before .before) .fits .ceiling)) returns-5 returns-6 returns-7)

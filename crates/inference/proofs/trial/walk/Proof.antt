@@ -13,27 +13,29 @@ use Rattle.clauses.specs.Clauses.{clausesOf}
 use Rattle.clauses.specs.Literal.{Literal}
 use Rattle.clauses.proofs.Signed.{read}
 use Rattle.closure.specs.Job.{after, step, walked}
-use Rattle.closure.specs.Marks.{decided}
-use Rattle.inference.specs.Steps.{MarksOk, walkOf, PassOk}
+use Rattle.inference.specs.Steps.{walkOf, Walking, PassOk}
 use Rattle.inference.specs.declared.trial.Pass.{Pass}
 use Rattle.inference.proofs.Walking.{onward, rest, rest-next, rest-end}
 use Rattle.inference.proofs.trial.walk.Statement.{statement}
 use Rattle.inference.proofs.trial.walk.Tie as tie
 
 abbrev Inv-loop : tie.InvT-loop
-Inv-loop marks₀ known set order ceiling count d₀ n₀ failed₀ i₀ marks d n failed i =
-    (i ≤ length order) × MarksOk set marks × (n ≤ ceiling) × (d ≡ decided marks)
+Inv-loop marks₀ sums₀ list₀ known₀ possible decided set order ceiling count d₀ n₀ failed₀ i₀ marks sums list known d n failed i =
+    (i ≤ length order) × Walking set marks sums known possible d × (n ≤ ceiling)
     × (rest (clausesOf set) ceiling order i marks n failed ≡ rest (clausesOf set) ceiling order 0 marks₀ count failed₀)
 
 abbrev μ-loop : tie.MeasureT-loop
-μ-loop marks₀ known set order ceiling count d₀ n₀ failed₀ i₀ marks d n failed i = length order - i
+μ-loop marks₀ sums₀ list₀ known₀ possible decided set order ceiling count d₀ n₀ failed₀ i₀ marks sums list known d n failed i = length order - i
 
 loop-holds : tie.Need-loop-holds Inv-loop μ-loop
-loop-holds c = (omega arith, c .pre .0, c .pre .3, c .pre .1, refl)
+loop-holds c = (omega arith, c .pre .0, c .pre .2, refl)
 
-module _ (c : tie.After-next-arg2 Inv-loop μ-loop) where
+module _ (c : tie.After-next-arg5 Inv-loop μ-loop) where
+  abbrev turn : tie.In-loop Inv-loop μ-loop
+  turn = c .before .before .before .before .before
+
   abbrev at-loop : tie.At-loop Inv-loop μ-loop
-  at-loop = c .before .before .before
+  at-loop = turn .before
 
   abbrev o : List ℤ
   o = at-loop .before .args .order .now
@@ -43,12 +45,12 @@ module _ (c : tie.After-next-arg2 Inv-loop μ-loop) where
 
   -- the entry as it is read
   is-read : toZ w16 (ofZ w16 (getD o i (pos 0))) ≡ getD o i (pos 0)
-  is-read = read (getD o i (pos 0)) (record { sfits = c .next-arg2 .given })
+  is-read = read (getD o i (pos 0)) (record { sfits = c .next-arg5 .given })
 
 next-requires : tie.Need-next-requires Inv-loop μ-loop
 next-requires c κs =
     let w = at-loop c in
-    (w .loop .inv .1, w .loop .inv .3, subst Literal (sym (is-read c)) (w .before .pre .2 (w .loop .i) (c .before .before .loop-test .taken)), w .loop .inv .2)
+    (w .loop .inv .1, subst Literal (sym (is-read c)) (w .before .pre .1 (w .loop .i) (turn c .loop-test .taken)), w .loop .inv .2)
 
 module _ (c : tie.After-next Inv-loop μ-loop) where
   abbrev w : tie.At-loop Inv-loop μ-loop
@@ -64,32 +66,32 @@ module _ (c : tie.After-next Inv-loop μ-loop) where
   went p e =
       let cs = clausesOf (a .args .set) in
       let m = w .loop .marks in
-      sym (rest-next cs (a .args .ceiling) (a .args .order .now) (w .loop .i) m (w .loop .n) (w .loop .failed) (c .before .before .before .loop-test .taken) (walkOf p (c .next .last .0))
+      sym (rest-next cs (a .args .ceiling) (a .args .order .now) (w .loop .i) m (w .loop .n) (w .loop .failed) (turn (c .before) .loop-test .taken) (walkOf p (c .next .last .0))
       (ap (λ x. walkOf x (c .next .last .0)) (sym e) ∙ c .next .ensures .0
       ∙ ap (λ x. after (step cs (a .args .ceiling) m (w .loop .n) x) m (w .loop .n) (w .loop .failed) (λ t k b. walked t k b)) (is-read (c .before))))
-      ∙ w .loop .inv .4
+      ∙ w .loop .inv .3
 
-  -- the numbers that it gives back
-  good : (p : Pass) → c .next .result ≡ p → PassOk (a .args .ceiling) (c .next .last .0) p
-  good p e = subst (PassOk (a .args .ceiling) (c .next .last .0)) e (c .next .ensures .2)
+  -- what it gives back
+  good : (p : Pass) → c .next .result ≡ p
+      → PassOk (a .args .set) (a .args .ceiling) (c .next .last .0) (c .next .last .1 .0) (c .next .last .1 .1 .1 .0) (a .args .possible .now) p
+  good p e = subst (PassOk (a .args .set) (a .args .ceiling) (c .next .last .0) (c .next .last .1 .0) (c .next .last .1 .1 .1 .0) (a .args .possible .now)) e (c .next .ensures .1)
 
 returns : tie.Need-returns Inv-loop μ-loop
-returns c = let n = c .before .before .before in let e = c .before .pass2 .given .1 in (went n _ e, n .next .ensures .1, good n _ e)
+returns c = let n = c .before .before .before in let e = c .before .pass2 .given .1 in (went n _ e, good n _ e)
 
 loop-again : tie.Need-loop-again Inv-loop μ-loop
 loop-again c =
     let n = c .before .before .before in
     let e = c .before .pass .given .1 in
     let g = good n _ e in
-    (omega (arith, n .before .before .before .loop-test .taken), n .next .ensures .1, g .0, g .1, went n _ e)
+    (omega (arith, turn (n .before) .loop-test .taken), g .1, g .0, went n _ e)
 
 returns-2 : tie.Need-returns-2 Inv-loop μ-loop
 returns-2 c =
     let w = c .before in
     let a = w .before .args in (
-      rest-end (clausesOf (a .set)) (a .ceiling) (a .order .now) (w .loop .i) (w .loop .marks) (w .loop .n) (w .loop .failed) (c .loop-test .left) ∙ w .loop .inv .4,
-      w .loop .inv .1,
-      (w .loop .inv .2, w .loop .inv .3),
+      rest-end (clausesOf (a .set)) (a .ceiling) (a .order .now) (w .loop .i) (w .loop .marks) (w .loop .n) (w .loop .failed) (c .loop-test .left) ∙ w .loop .inv .3,
+      (w .loop .inv .2, w .loop .inv .1),
     )
 
 pub walk-spec : {M : Type 1} → statement M

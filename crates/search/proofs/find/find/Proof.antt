@@ -3,53 +3,56 @@ use mathlib.Core.Path.{_≡_, sym, ap, subst, _∙_}
 use mathlib.Core.List.{List, List·Memᴰ}
 use Prim.Native.Nat.{ℕ}
 use borrow.Author.Needs.{needs}
-use lib.IntN.{ℤ}
 use Rattle.clauses.specs.Models.{givens}
-use Rattle.closure.specs.Marks.{decided}
+use Rattle.clauses.specs.declared.ClauseSet.the-variants.{Extended}
+use Rattle.propagation.specs.Steps.{ClosesTo}
+use Rattle.propagation.specs.declared.close.Reached.{Reached}
+use Rattle.propagation.specs.declared.close.Reached.the-variants.{Clash, Decided}
 use Rattle.search.specs.Completions.{completions}
-use Rattle.search.specs.Search.{foundOf, left, Settles, SettledOk}
+use Rattle.search.specs.Search.{foundOf, left}
 use Rattle.search.proofs.Left.{start-none, start-left}
 use Rattle.search.proofs.find.find.Statement.{statement}
 use Rattle.search.proofs.find.find.Tie as tie
 
-module _ (c : tie.After-start) where
+module _ (c : tie.After-close-givens) where
   abbrev g : List ℕ
-  g = c .before .before .before .args .grid .now
+  g = c .before .before .before .before .before .args .grid .now
 
   abbrev marks : List ℕ
-  marks = c .start .last .0
+  marks = c .close-givens .last .0
 
-  abbrev Given : ℤ → Type 0
-  Given l = List·Memᴰ l (givens g)
+  abbrev sums : List ℕ
+  sums = c .close-givens .last .1 .0
 
-settled : (c : tie.After-started) → let k = c .before .before in Settles (Given k) (marks k) × (c .started .given .0 .0 ≡ decided (marks k))
-settled c = let k = c .before .before in subst (SettledOk (Given k) (marks k)) (c .started .given .1) (k .start .ensures)
+  closes : (r : Reached) → c .close-givens .result ≡ r → ClosesTo Extended (λ l. List·Memᴰ l (givens g)) marks sums r
+  closes r e = subst (ClosesTo Extended (λ l. List·Memᴰ l (givens g)) marks sums) e (c .close-givens .ensures)
 
--- the givens leave what their closure leaves
-same : (c : tie.After-started) → completions (g (c .before .before)) ≡ left (marks (c .before .before))
-same c = start-left (g (c .before .before)) (marks (c .before .before)) (settled c .0)
+module _ (c : tie.After-started) where
+  abbrev closing : tie.After-close-givens
+  closing = c .before .before
 
-refuted-requires : tie.Need-refuted-requires
-refuted-requires c κs = let w = c .before .before .before in (settled w .0 .marks, settled w .1)
+  closed : ClosesTo Extended (λ l. List·Memᴰ l (givens (g closing))) (marks closing) (sums closing) (Decided (c .started .given .0 .0))
+  closed = closes closing (Decided (c .started .given .0 .0)) (c .started .given .1)
 
-explore-requires : tie.Need-explore-requires
-explore-requires c κs = let w = c .before .before .before .before .before .before .before .before in (settled w .0 .marks, settled w .1)
+  -- the givens leave what their closure leaves
+  same : completions (g closing) ≡ left (marks closing)
+  same = start-left (g closing) closed
 
 returns : tie.Need-returns
 returns c =
     let r = c .before .before in
-    c .none2 .ensures ∙ ap foundOf (sym (same (r .before .before .before .before) ∙ r .refuted .ensures (c .before .if1 .taken)))
+    c .none2 .ensures ∙ ap foundOf (sym (same (r .before .before .before .before .before .before) ∙ r .refuted .ensures (c .before .if1 .taken)))
 
 returns-2 : tie.Need-returns-2
 returns-2 c =
     let k = c .before .before .before in
-    c .none .ensures ∙ ap foundOf (sym (start-none (g k) (subst (SettledOk (Given k) (marks k)) (c .before .enum-told .given .1) (k .start .ensures))))
+    c .none .ensures ∙ ap foundOf (sym (start-none (g k) (closes k Clash (c .before .enum-told .given .1) .answer)))
 
 returns-3 : tie.Need-returns-3
-returns-3 c = c .explore .ensures ∙ ap foundOf (sym (same (c .before .before .before .before .before .before .before .before .before)))
+returns-3 c = c .explore .ensures ∙ ap foundOf (sym (same (c .before .before .before .before .before .before .before .before .before .before .before .before .before)))
 
 pub find-spec : {M : Type 1} → statement M
 find-spec =
     tie.close
-    (tie.spec (λ c κs. search needs) (λ c. search needs) (λ c κs. search needs) (λ c. search needs) refuted-requires (λ c κs. search needs) returns explore-requires returns-2
-    returns-3)
+    (tie.spec (λ c κs. search needs) (λ c. search needs) (λ c κs. search needs) (λ c. search needs) (λ c κs. closed (c .before .before .before .before .before) .state) (λ c κs. search needs) returns
+    (λ c κs. closed (c .before .before .before .before .before .before .before .before .before .before .before .before) .state) returns-2 returns-3)

@@ -4,7 +4,7 @@ use mathlib.Core.Bool.{false}
 use Prim.Native.Nat.{ℕ, _-_, _≤_, _<_}
 use native.Mathlib.Omega.{arith}
 use borrow.Author.Count.{below-more}
-use Rattle.inference.proofs.Least.{least-is}
+use Rattle.grid.proofs.Least.{least-is}
 use Rattle.search.specs.Search.{isOpen, firstOpen}
 use Rattle.search.proofs.find.first_open.Statement.{statement}
 use Rattle.search.proofs.find.first_open.Tie as tie

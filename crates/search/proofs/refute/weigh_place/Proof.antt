@@ -11,31 +11,25 @@ use lib.ListN.{getD}
 use mir.Syntax.{w16}
 use mir.Val.{toZ, ofZ}
 use Rattle.clauses.specs.Literal.{Literal}
+use Rattle.clauses.specs.declared.ClauseSet.the-variants.{Extended}
 use Rattle.clauses.proofs.Signed.{returned}
 use Rattle.closure.specs.Closure.{With}
 use Rattle.closure.specs.Marks.{has, isDecided}
 use Rattle.closure.proofs.Marks.{decided-rises}
-use Rattle.inference.proofs.Trying.{byte-open}
-use Rattle.search.specs.Search.{SettledOk}
-use Rattle.search.specs.declared.branch.Settled.the-variants.{Clash, Decided}
-use Rattle.search.proofs.Settling.{not-marked}
+use Rattle.propagation.specs.Steps.{ClosesTo}
+use Rattle.propagation.specs.declared.close.Reached.{Reached}
+use Rattle.propagation.specs.declared.close.Reached.the-variants.{Clash, Decided}
+use Rattle.propagation.proofs.Literals.{byte-open}
 use Rattle.search.proofs.Refuting.{Refuted, clash-refutes, struck-weighs, weighs-none}
 use Rattle.search.proofs.refute.weigh_place.Statement.{statement}
 use Rattle.search.proofs.refute.weigh_place.Tie as tie
 
--- the place is undecided
-abbrev Open : tie.Start → Type 0
-Open s = getD (s .args .marks .now) (s .args .place) 0 ≡ 0
+module _ (c : tie.After-close-true) where
+  abbrev open-place : tie.Else1
+  open-place = c .before .before .before .before .before .before
 
-assume-requires : tie.Need-assume-requires
-assume-requires c κs =
-    let s = c .before .before .before .before in
-    let z : Open s = c .before .before .if1 .left in
-    (s .pre .0, s .pre .1, s .pre .2, not-marked (s .args .marks .now) (s .args .place) (λ e. omega (arith, e, z)))
-
-module _ (c : tie.After-assume) where
   abbrev first : tie.Start
-  first = c .before .before .before .before .before
+  first = open-place .before .before
 
   abbrev m : List ℕ
   m = first .args .marks .now
@@ -43,54 +37,49 @@ module _ (c : tie.After-assume) where
   abbrev p : ℕ
   p = first .args .place
 
-  refuted : c .assume .result ≡ Clash → Refuted m p
-  refuted e = clash-refutes m p (subst (SettledOk (With (has m) (pos (suc p))) (c .assume .last .0)) e (c .assume .ensures))
+  -- what the trial comes to
+  shows : (r : Reached) → c .close-true .result ≡ r → ClosesTo Extended (With (has m) (pos (suc p))) (c .close-true .last .0) (c .close-true .last .1 .0) r
+  shows r e = subst (ClosesTo Extended (With (has m) (pos (suc p))) (c .close-true .last .0) (c .close-true .last .1 .0)) e (c .close-true .ensures)
 
 sub-weight : tie.Need-sub-weight
 sub-weight c =
     let k = c .before in
     let a = k .before .before in
-    let P = With (has (m a)) (pos (suc (p a))) in
-    let s : SettledOk P (a .assume .last .0) (Decided (k .tried .given .0 .0)) = subst (SettledOk P (a .assume .last .0)) (k .tried .given .1) (a .assume .ensures) in
-    omega (arith, s .1, first a .pre .1, decided-rises (m a) (a .assume .last .0) (λ l t. s .0 .holds l (inl t)))
+    let s = shows a (Decided (k .tried .given .0 .0)) (k .tried .given .1) in
+    omega (arith, s .state .count, first a .pre .0 .count, decided-rises (m a) (a .close-true .last .0) (λ l t. s .answer .holds l (inl t)))
 
 -- where the trial has failed
 module _ (c : tie.After-negative) where
-  abbrev tried : tie.After-assume
-  tried = c .before .before .before .before
+  abbrev tried : tie.After-close-true
+  tried = c .before .before .before .before .before .before
 
   -- the literal as it is read
   is-read : toZ w16 (ofZ w16 (c .negative .result)) ≡ negsuc (p tried)
   is-read = returned _ (c .negative .ok) ∙ c .negative .ensures
 
   failed : Refuted (m tried) (p tried)
-  failed = refuted tried (c .before .before .enum-told .given .1)
+  failed = clash-refutes (m tried) (p tried) (shows tried Clash (c .before .before .before .before .enum-told .given .1) .answer)
 
-join-requires : tie.Need-join-requires
-join-requires c κs =
-    let s = first (tried c) in
-    let z : Open s = tried c .before .before .before .if1 .left in (
+close-with-requires : tie.Need-close-with-requires
+close-with-requires c κs =
+    let t = tried c in
+    let s = first t in
+    let z : getD (m t) (p t) 0 ≡ 0 = open-place t .if1 .left in (
       s .pre .0,
-      s .pre .1,
-      subst Literal (sym (is-read c)) (s .pre .2),
-      λ t. byte-open (m (tried c)) (negsuc (p (tried c))) (s .pre .2) z (subst (λ l. T (isDecided (m (tried c)) l)) (is-read c) t),
+      subst Literal (sym (is-read c)) (s .pre .1),
+      λ y. byte-open (m t) (negsuc (p t)) (s .pre .1) z (subst (λ l. T (isDecided (m t) l)) (is-read c) y),
     )
-
-returns : tie.Need-returns
-returns c = let s = c .before .before in (weighs-none (s .args .marks .now) (s .pre .0), s .pre .1)
-
-returns-2 : tie.Need-returns-2
-returns-2 c = let s = first (c .before .before .before .before) in (weighs-none (s .args .marks .now) (s .pre .0), s .pre .1)
 
 returns-3 : tie.Need-returns-3
 returns-3 c =
     let k = c .before in
-    let a = tried k in
-    struck-weighs (m a) (first a .pre .0 .marks) (p a) (failed k) (c .join .last .0) (c .join .result)
-    (subst (λ l. SettledOk (With (has (m a)) l) (c .join .last .0) (c .join .result)) (is-read k) (c .join .ensures))
+    let t = tried k in
+    let w = c .close-with in
+    struck-weighs (m t) (first t .pre .0 .marks .marks) (p t) (failed k) (w .last .0) (w .last .1 .0) (w .result)
+    (subst (λ l. ClosesTo Extended (With (has (m t)) l) (w .last .0) (w .last .1 .0) (w .result)) (is-read k) (w .ensures))
 
 pub weigh-place-spec : {M : Type 1} → statement M
 weigh-place-spec =
     tie.close
-    (tie.spec (λ c. search needs) returns assume-requires (λ c. search needs) sub-weight (λ c κs. search needs) (λ c. search needs)
-    (λ c. search needs) (λ c. search needs) (λ c κs. search needs) join-requires returns-2 returns-3)
+    (tie.spec (λ c. search needs) (λ c. weighs-none (c .before .before .pre .0)) (λ c κs. search needs) (λ c. search needs) sub-weight (λ c κs. search needs) (λ c. search needs)
+    (λ c. search needs) (λ c. search needs) (λ c κs. search needs) close-with-requires (λ c. weighs-none (first (c .before .before .before .before) .pre .0)) returns-3)
