@@ -104,6 +104,7 @@ marks-complete g b m h r = record { long = r .long; completes = λ l v n. (b, h,
 
 -- the only completion that is found is legal
 pub only-legal : (g : List ℕ) (f : Found) → f ≡ foundOf (completions g) → f .count ≡ 1 → Legal g (f .first)
+unfolding foundOf
 only-legal g f e h = subst (λ x. Legal g (x .first)) (sym e) (go (completions g) (λ b. completions-in-order g .members b .0) (sym (ap (λ x. x .count) e) ∙ h))
   where
     go : (bs : List (List ℕ)) → ((b : List ℕ) → List·Memᴰ b bs → Legal g b) → foundOf bs .count ≡ 1 → Legal g (foundOf bs .first)

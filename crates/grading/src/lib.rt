@@ -86,13 +86,7 @@ fn climb(grid: &[u8], order: &[i16], ceiling: u32, possible: &[u8; 729]) -> Rati
     let mut i = 0;
     while i < 4 {
         let stage = stage_at(i);
-        let ended = run_with(
-            stage.technique,
-            grid,
-            order,
-            ceiling - trials,
-            possible,
-        );
+        let ended = run_with(stage.technique, grid, order, ceiling - trials, possible);
         let end = ended.end;
         match end {
             End::Solved(n) => {

@@ -20,16 +20,16 @@ use Rattle.grading.proofs.climb.Statement.{statement}
 use Rattle.grading.proofs.climb.Tie as tie
 
 abbrev Inv-loop : tie.InvT-loop
-Inv-loop grid order ceiling trials₀ i₀ trials i =
+Inv-loop grid order ceiling possible trials₀ i₀ trials i =
     (i ≤ 4) × (trials ≤ ceiling) × (rateFrom grid order ceiling (drop i stages) trials ≡ rateFrom grid order ceiling stages 0)
 
 abbrev μ-loop : tie.MeasureT-loop
-μ-loop grid order ceiling trials₀ i₀ trials i = 4 - i
+μ-loop grid order ceiling possible trials₀ i₀ trials i = 4 - i
 
 loop-holds : tie.Need-loop-holds Inv-loop μ-loop
 loop-holds c = (omega arith, omega arith, refl)
 
-module _ (r : tie.After-run Inv-loop μ-loop) where
+module _ (r : tie.After-run-with Inv-loop μ-loop) where
   abbrev w : tie.At-loop Inv-loop μ-loop
   w = r .before .before .before
 
@@ -46,28 +46,28 @@ module _ (r : tie.After-run Inv-loop μ-loop) where
   stage = r .before .stage-at .result
 
   abbrev after : End → job.End
-  after e = endOf e (r .run .result .state .marks)
+  after e = endOf e (r .run-with .result .state .marks)
 
   -- the job is that of the stage
-  is-job : (e : End) → r .run .result .end ≡ e → after e ≡ jobAt grid order (start .args .ceiling) stage (w .loop .trials)
-  is-job e q = ap after (sym q) ∙ r .run .ensures
+  is-job : (e : End) → r .run-with .result .end ≡ e → after e ≡ jobAt grid order (start .args .ceiling) stage (w .loop .trials)
+  is-job e q = ap after (sym q) ∙ r .run-with .ensures
 
   -- what it comes to
-  went : (e : End) → r .run .result .end ≡ e
+  went : (e : End) → r .run-with .result .end ≡ e
       → afterJob (after e) (stage .verdict) (w .loop .trials) (rateFrom grid order (start .args .ceiling) (drop (w .loop .i + 1) stages)) ≡ rateFrom grid order (start .args .ceiling) stages 0
   went e q =
       rate-next grid order (start .args .ceiling) (drop (w .loop .i) stages) (drop (w .loop .i + 1) stages) stage (w .loop .trials) (after e) (r .before .stage-at .ensures) (is-job e q)
       ∙ w .loop .inv .2
 
   -- its trials are within the ceiling
-  within : (e : End) → r .run .result .end ≡ e → w .loop .trials + job.countOf (after e) ≤ start .args .ceiling
+  within : (e : End) → r .run-with .result .end ≡ e → w .loop .trials + job.countOf (after e) ≤ start .args .ceiling
   within e q = omega (arith, count-left grid order (start .args .ceiling) stage (w .loop .trials) (after e) (is-job e q), w .loop .inv .1)
 
-  fits : (e : End) → r .run .result .end ≡ e → Fits w32 (w .loop .trials + job.countOf (after e))
+  fits : (e : End) → r .run-with .result .end ≡ e → Fits w32 (w .loop .trials + job.countOf (after e))
   fits e q = omega (arith, within e q, start .fits .ceiling)
 
-run-requires : tie.Need-run-requires Inv-loop μ-loop
-run-requires c κs = let a = c .before .before .before .before in (a .pre .0, a .pre .1)
+run-with-requires : tie.Need-run-with-requires Inv-loop μ-loop
+run-with-requires c κs = let a = c .before .before .before .before in (a .pre .0, a .pre .1, a .pre .2)
 
 returns : tie.Need-returns Inv-loop μ-loop
 returns c = let e = c .before in went (e .before .before) (Solved (e .end .given .0 .0)) (e .end .given .1)
@@ -79,7 +79,7 @@ loop-again : tie.Need-loop-again Inv-loop μ-loop
 loop-again c =
     let r = c .before in
     let ss = drop (w r .loop .i + 1) stages in
-    let next : (e : End) (q : r .run .result .end ≡ e) (t : ℕ) → t ≡ w r .loop .trials + job.countOf (after r e)
+    let next : (e : End) (q : r .run-with .result .end ≡ e) (t : ℕ) → t ≡ w r .loop .trials + job.countOf (after r e)
     → afterJob (after r e) (stage r .verdict) (w r .loop .trials) (rateFrom (grid r) (order r) (start r .args .ceiling) ss) ≡ rateFrom (grid r) (order r) (start r .args .ceiling) ss (w r .loop .trials + job.countOf (after r e))
     → (t ≤ start r .args .ceiling) × (rateFrom (grid r) (order r) (start r .args .ceiling) ss t ≡ rateFrom (grid r) (order r) (start r .args .ceiling) stages 0) =
     λ e q t h k. (omega (arith, h, within r e q), ap (rateFrom (grid r) (order r) (start r .args .ceiling) ss) h ∙ sym k ∙ went r e q) in
@@ -98,7 +98,7 @@ returns-3 c =
 pub climb-spec : {M : Type 1} → statement M
 climb-spec =
     tie.close
-    (tie.spec Inv-loop μ-loop loop-holds (λ c κs. search needs) (λ c. search needs) run-requires
+    (tie.spec Inv-loop μ-loop loop-holds (λ c κs. search needs) (λ c. search needs) run-with-requires
     (λ c. search needs) (λ c. let e = c .before in fits (e .before .before) (Solved (e .end .given .0 .0)) (e .end .given .1)) returns
     (λ c. search needs) (λ c. let e = c .before in fits (e .before .before) (Stopped (e .end2 .given .0 .0)) (e .end2 .given .1)) returns-2
     (λ c. search needs) (λ c. let e = c .before in fits (e .before .before) (Open (e .end3 .given .0 .0)) (e .end3 .given .1))

@@ -2,7 +2,7 @@
 use mathlib.Core.Path.{sym, _∙_}
 use borrow.Author.Needs.{needs}
 use Rattle.search.proofs.Calls.{found-bytes}
-use Rattle.grading.proofs.Grading.{graded-one, graded-none, graded-several}
+use Rattle.grading.proofs.Grading.{marks-complete, only-legal, graded-one, graded-none, graded-several}
 use Rattle.grading.proofs.rate.Statement.{statement}
 use Rattle.grading.proofs.rate.Tie as tie
 
@@ -14,9 +14,18 @@ copy-out-requires c κs =
     let f = c .before .before .before .before .before in
     start f .pre .2 ∙ sym (found-bytes (f .find .result) (start f .args .grid .now) (f .find .ensures) .0)
 
+climb-requires : tie.Need-climb-requires
+climb-requires c κs =
+    let m = c .before in
+    let t = m .before .before .before .before .before .before .before .before in
+    let f = t .before .before in
+    let s = start f in
+    let a = s .args in
+    (s .pre .0, s .pre .1, marks-complete (a .grid .now) (f .find .result .first) (m .marks-of .result) (only-legal (a .grid .now) (f .find .result) (f .find .ensures) (t .if1 .taken)) (m .marks-of .ensures))
+
 returns : tie.Need-returns
 returns c =
-    let k = c .before .before .before in
+    let k = c .before .before .before .before .before .before in
     let t = k .before .before .before .before in
     let f = t .before .before in
     let a = start f .args in
@@ -40,5 +49,5 @@ returns-3 c =
 pub rate-spec : {M : Type 1} → statement M
 rate-spec =
     tie.close
-    (tie.spec (λ c κs. search needs) (λ c. search needs) copy-out-requires (λ c κs. search needs) (λ c. search needs) returns
+    (tie.spec (λ c κs. search needs) (λ c. search needs) copy-out-requires (λ c κs. search needs) climb-requires (λ c. search needs) returns
     (λ c. search needs) (λ c κs. search needs) (λ c. search needs) returns-2 (λ c. search needs) returns-3)
