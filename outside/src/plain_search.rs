@@ -9,7 +9,7 @@
 
 use crate::cases::Grid;
 use crate::grid::{self, CELLS};
-use crate::plain_job::{check_order, closed_givens, closed_with, run, State};
+use crate::plain_job::{check_order, run, Closing, State};
 use crate::refusal::{demand, Refusal};
 
 /// The smallest completions, at most two, and what finding them took.
@@ -22,6 +22,7 @@ pub struct Search {
     /// goes with.
     pub decided: usize,
     most_closures: usize,
+    closing: Closing<true>,
     /// How often a test ended at a place that can be neither true nor false.
     failures: [u32; 729],
 }
@@ -53,9 +54,10 @@ impl Search {
             closures: 1,
             decided: 0,
             most_closures,
+            closing: Closing::new(),
             failures: [0; 729],
         };
-        if let Some(state) = closed_givens(grid, true) {
+        if let Some(state) = search.closing.givens(grid) {
             if let Some(mut guess) = search.tested(state) {
                 search.explore(&state, &mut guess);
             }
@@ -157,10 +159,15 @@ impl Search {
     }
 
     fn closed_with(&mut self, state: &State, literal: i16) -> Option<State> {
-        let next = closed_with(state, true, literal);
         self.closures += 1;
-        self.decided += next.map_or(1, |next| next.decided - state.decided);
-        next
+        let mut next = *state;
+        if self.closing.join(&mut next, literal) {
+            self.decided += next.decided - state.decided;
+            Some(next)
+        } else {
+            self.decided += 1;
+            None
+        }
     }
 }
 
