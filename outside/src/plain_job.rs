@@ -2,7 +2,8 @@
 //! beside it. A place is a variable less 1. Each nine-literal clause has a sum of what its places
 //! weigh, so that a look at the sum tells whether it may act, and on which place. Clauses that may
 //! act are listed and looked at one by one; a place that becomes true strikes the others of its
-//! groups at once, so that no two-literal clause is left to act.
+//! groups at once, so that no two-literal clause is left to act. Trials that are known to succeed
+//! are only counted.
 
 use crate::grid::{self, VARIABLES};
 use crate::refusal::{demand, demand_none, Refusal};
@@ -190,7 +191,8 @@ pub fn job(
     grid::check(grid)?;
     demand((1..=4).contains(&technique), 21)?;
     check_order(order)?;
-    Ok(run(grid, technique, order, ceiling, marks))
+    let sure = [0; VARIABLES];
+    Ok(run(grid, technique, order, ceiling, &sure, marks))
 }
 
 /// 22, 23 and 24 in one pass over the order. The first repeat is kept until the end, since an entry
@@ -212,19 +214,23 @@ pub(crate) fn check_order(order: &[i16]) -> Result<(), Refusal> {
     demand_none(repeat, 24)
 }
 
-/// Outcome, count and marks of a checked job.
+/// Outcome and count of a checked job, and its marks. Literals that are sure, as bits of their
+/// variables, 1 for the positive one and 2 for the negative, are known to succeed in every trial.
 pub(crate) fn run(
     grid: &[u8],
     technique: u32,
     order: &[i16],
     ceiling: u32,
+    sure: &[u8; VARIABLES],
     marks: &mut [u8; VARIABLES],
 ) -> (u8, u32) {
-    if matches!(technique, 2 | 4) {
-        run_over::<true>(grid, technique, order, ceiling, marks)
+    let ((outcome, count), closed) = if matches!(technique, 2 | 4) {
+        run_over::<true>(grid, technique, order, ceiling, sure)
     } else {
-        run_over::<false>(grid, technique, order, ceiling, marks)
-    }
+        run_over::<false>(grid, technique, order, ceiling, sure)
+    };
+    *marks = if outcome == 4 { [0; VARIABLES] } else { closed };
+    (outcome, count)
 }
 
 fn run_over<const EXTENDED: bool>(
@@ -232,48 +238,51 @@ fn run_over<const EXTENDED: bool>(
     technique: u32,
     order: &[i16],
     ceiling: u32,
-    marks: &mut [u8; VARIABLES],
-) -> (u8, u32) {
+    sure: &[u8; VARIABLES],
+) -> ((u8, u32), [u8; VARIABLES]) {
     let mut closing = Closing::<EXTENDED>::new();
     let Some(mut state) = closing.givens(grid) else {
-        *marks = [0; VARIABLES];
-        return (4, 0);
+        return ((4, 0), [0; VARIABLES]);
     };
-    let (outcome, count) = if state.decided == VARIABLES {
+    let answer = if state.decided == VARIABLES {
         (1, 0)
     } else if technique < 3 {
         (2, 0)
     } else {
-        trials(&mut closing, &mut state, order, ceiling)
+        trials(&mut closing, &mut state, order, ceiling, sure)
     };
-    *marks = if outcome == 4 {
-        [0; VARIABLES]
-    } else {
-        state.marks
-    };
-    (outcome, count)
+    (answer, state.marks)
 }
 
-/// Passes over the order until none of the trials in one fails, and how many trials they take.
+/// Passes over the order until none of the trials in one fails, and how many trials they take. All
+/// that the closure of a trial that succeeds has would succeed too, as long as the state is the
+/// same, so that such a trial is counted and not made.
 fn trials<const EXTENDED: bool>(
     closing: &mut Closing<EXTENDED>,
     state: &mut State,
     order: &[i16],
     ceiling: u32,
+    sure: &[u8; VARIABLES],
 ) -> (u8, u32) {
+    let mut known = *sure;
     let mut count = 0;
     loop {
         let mut failed = false;
         for &literal in order {
-            if state.marks[usize::from(literal.unsigned_abs()) - 1] != 0 {
+            let p = usize::from(literal.unsigned_abs()) - 1;
+            if state.marks[p] != 0 {
                 continue;
             }
             if count == ceiling {
                 return (3, count);
             }
             count += 1;
+            if known[p] & mark_of(literal) != 0 {
+                continue;
+            }
             let mut with = *state;
             if closing.join(&mut with, literal) {
+                note(&mut known, &with.marks);
                 continue;
             }
             failed = true;
@@ -283,9 +292,26 @@ fn trials<const EXTENDED: bool>(
             if state.decided == VARIABLES {
                 return (1, count);
             }
+            known = *sure;
         }
         if !failed {
             return (2, count);
         }
+    }
+}
+
+/// A variable's mark where the literal is true, which is its bit too.
+fn mark_of(literal: i16) -> u8 {
+    if literal > 0 {
+        1
+    } else {
+        2
+    }
+}
+
+/// All literals of the marks are known from here on.
+fn note(known: &mut [u8; VARIABLES], marks: &[u8; VARIABLES]) {
+    for (known, mark) in known.iter_mut().zip(marks) {
+        *known |= mark;
     }
 }

@@ -3,12 +3,12 @@
 //! takes the unit closure over the extended set, and branches on the first open cell with its digits
 //! rising, so completions come in byte order. A branch is entered unless a test finds that it leaves
 //! nothing. The test first dives for a full grid. Else it tries each place, those where it has failed
-//! before first, notes what the trial decides, and branches on the group that promises the smallest tree; it starts again where that is
-//! too large. A full grid that it comes upon is kept as a guess, and a branch that the guess agrees
-//! with needs no test.
+//! before first, notes what the trial decides, and branches on the group that promises the smallest
+//! tree; it starts again where that is too large. A full grid that it comes upon is kept as a guess,
+//! and a branch that the guess agrees with needs no test.
 
 use crate::cases::Grid;
-use crate::grid::{self, CELLS};
+use crate::grid::{self, CELLS, VARIABLES};
 use crate::plain_job::{check_order, run, Closing, State};
 use crate::refusal::{demand, Refusal};
 
@@ -23,8 +23,10 @@ pub struct Search {
     pub decided: usize,
     most_closures: usize,
     closing: Closing<true>,
+    /// The marks of the full grid that a test came upon last.
+    guess: [u8; VARIABLES],
     /// How often a test ended at a place that can be neither true nor false.
-    failures: [u32; 729],
+    failures: [u32; VARIABLES],
 }
 
 /// How many groups there are: the cells, then each house for each digit.
@@ -34,8 +36,8 @@ const GROUPS: usize = 324;
 enum Attempt {
     /// It leaves nothing; so many nodes were not needed.
     Refuted(usize),
-    /// A full grid that it leaves.
-    Full(State),
+    /// It leaves a full grid, which is the guess.
+    Full,
     /// The nodes were too few.
     Spent,
 }
@@ -55,18 +57,19 @@ impl Search {
             decided: 0,
             most_closures,
             closing: Closing::new(),
-            failures: [0; 729],
+            guess: [0; VARIABLES],
+            failures: [0; VARIABLES],
         };
         if let Some(state) = search.closing.givens(grid) {
-            if let Some(mut guess) = search.tested(state) {
-                search.explore(&state, &mut guess);
+            if !search.refuted(&state) {
+                search.explore(&state);
             }
         }
         search
     }
 
     /// The completions of a state, as long as fewer than two are found.
-    fn explore(&mut self, state: &State, guess: &mut State) {
+    fn explore(&mut self, state: &State) {
         let true_digit = |cell| (9 * cell..9 * cell + 9).find(|&place| state.marks[place] == 1);
         let Some(open) = (0..CELLS).find(|&cell| true_digit(cell).is_none()) else {
             let digit = |cell| true_digit(cell).map_or(0, |place| b'1' + (place % 9) as u8);
@@ -76,32 +79,26 @@ impl Search {
         for place in 9 * open..9 * open + 9 {
             if state.marks[place] == 0 && self.found.len() < 2 {
                 if let Some(next) = self.closed_with(state, place as i16 + 1) {
-                    if guess.marks[place] != 1 {
-                        let Some(near) = self.tested(next) else {
-                            continue;
-                        };
-                        *guess = near;
+                    if self.guess[place] == 1 || !self.refuted(&next) {
+                        self.explore(&next);
                     }
-                    self.explore(&next, guess);
                 }
             }
         }
     }
 
-    /// None where a state leaves nothing, else a full grid that it leaves. Each attempt has a third
-    /// more nodes than the one before.
-    fn tested(&mut self, state: State) -> Option<State> {
+    /// Whether a state leaves nothing; else the guess is a full grid that it leaves. Each attempt has
+    /// a third more nodes than the one before.
+    fn refuted(&mut self, state: &State) -> bool {
         let mut nodes = 12;
-        loop {
-            if self.closures >= self.most_closures {
-                return None;
-            }
-            match self.attempt(state, nodes) {
-                Attempt::Refuted(_) => return None,
-                Attempt::Full(full) => return Some(full),
+        while self.closures < self.most_closures {
+            match self.attempt(*state, nodes) {
+                Attempt::Refuted(_) => return true,
+                Attempt::Full => return false,
                 Attempt::Spent => nodes += nodes / 3,
             }
         }
+        true
     }
 
     /// An attempt to refute a state with so many nodes.
@@ -111,31 +108,16 @@ impl Search {
         }
         self.nodes += 1;
         let mut nodes = nodes - 1;
-        if let Some(full) = self.dive(state) {
-            return Attempt::Full(full);
+        if self.dive(state) {
+            return Attempt::Full;
         }
-        let mut weights = [0; 729];
-        for least in [1, 0] {
-            for place in 0..state.marks.len() {
-                if state.marks[place] != 0 || self.failures[place] < least {
-                    continue;
-                }
-                let literal = place as i16 + 1;
-                if let Some(next) = self.closed_with(&state, literal) {
-                    weights[place] = weight(next.decided - state.decided);
-                    continue;
-                }
-                let Some(next) = self.closed_with(&state, -literal) else {
-                    if self.failures[place] < 1_000_000 {
-                        self.failures[place] += 4;
-                    }
-                    return Attempt::Refuted(nodes);
-                };
-                state = next;
-            }
+        let mut weights = [0; VARIABLES];
+        if !self.weigh(&mut state, &mut weights) {
+            return Attempt::Refuted(nodes);
         }
         let Some(group) = lightest(&state, &weights, &self.failures, GROUPS) else {
-            return Attempt::Full(state);
+            self.guess = state.marks;
+            return Attempt::Full;
         };
         for place in places(group).filter(|&place| state.marks[place] == 0) {
             if let Some(next) = self.closed_with(&state, place as i16 + 1) {
@@ -148,14 +130,55 @@ impl Search {
         Attempt::Refuted(nodes)
     }
 
-    /// A full grid by the first digit left in each open cell, the cell with the fewest left first.
-    fn dive(&mut self, mut state: State) -> Option<State> {
-        while state.decided < state.marks.len() {
-            let cell = lightest(&state, &[1; 729], &[0; 729], CELLS)?;
-            let place = places(cell).find(|&place| state.marks[place] == 0)?;
-            state = self.closed_with(&state, place as i16 + 1)?;
+    /// A full grid by the first digit left in each open cell, the cell with the fewest left first;
+    /// false where there is none.
+    fn dive(&mut self, mut state: State) -> bool {
+        while state.decided < VARIABLES {
+            let cell = lightest(&state, &[1; VARIABLES], &[0; VARIABLES], CELLS);
+            let open = |cell| places(cell).find(|&place| state.marks[place] == 0);
+            let next = cell
+                .and_then(open)
+                .and_then(|place| self.closed_with(&state, place as i16 + 1));
+            match next {
+                Some(next) => state = next,
+                None => return false,
+            }
         }
-        Some(state)
+        self.guess = state.marks;
+        true
+    }
+
+    /// A trial of each place, first of those at which a test has failed before: where it fails, the
+    /// place becomes false, else its weight is noted. False at a place that can be neither.
+    fn weigh(&mut self, state: &mut State, weights: &mut [u32; VARIABLES]) -> bool {
+        self.weigh_from(state, weights, 1) && self.weigh_from(state, weights, 0)
+    }
+
+    /// A trial of each place with at least so many failures.
+    fn weigh_from(
+        &mut self,
+        state: &mut State,
+        weights: &mut [u32; VARIABLES],
+        least: u32,
+    ) -> bool {
+        for (place, noted) in weights.iter_mut().enumerate() {
+            if state.marks[place] != 0 || self.failures[place] < least {
+                continue;
+            }
+            let literal = place as i16 + 1;
+            if let Some(next) = self.closed_with(state, literal) {
+                *noted = weight(next.decided - state.decided);
+                continue;
+            }
+            let Some(next) = self.closed_with(state, -literal) else {
+                if self.failures[place] < 1_000_000 {
+                    self.failures[place] += 4;
+                }
+                return false;
+            };
+            *state = next;
+        }
+        true
     }
 
     fn closed_with(&mut self, state: &State, literal: i16) -> Option<State> {
@@ -248,15 +271,34 @@ pub fn grade(
         return Ok((if found.is_empty() { 0 } else { 7 }, 0));
     };
     completion.copy_from_slice(&only);
+    Ok(by_techniques(grid, order, ceiling, &marks_of(&only)))
+}
+
+/// Verdicts 1 to 6, with the trials that they take. All literals of the completion are sure to
+/// succeed: they contradict no state that is reached from the givens.
+fn by_techniques(
+    grid: &[u8],
+    order: &[i16],
+    ceiling: u32,
+    completion: &[u8; VARIABLES],
+) -> (u8, u32) {
     let mut trials = 0;
     for technique in 1..=4 {
-        let (outcome, count) = run(grid, technique, order, ceiling - trials, &mut [0; 729]);
+        let left = ceiling - trials;
+        let marks = &mut [0; VARIABLES];
+        let (outcome, count) = run(grid, technique, order, left, completion, marks);
         trials += count;
         match outcome {
-            1 => return Ok((technique as u8, trials)),
-            3 => return Ok((6, trials)),
+            1 => return (technique as u8, trials),
+            3 => return (6, trials),
             _ => {}
         }
     }
-    Ok((5, trials))
+    (5, trials)
+}
+
+/// The marks of a full grid.
+fn marks_of(full: &Grid) -> [u8; VARIABLES] {
+    let digit = |place| usize::from(full[place / 9] - b'1');
+    std::array::from_fn(|place| if place % 9 == digit(place) { 1 } else { 2 })
 }
