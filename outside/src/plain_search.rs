@@ -115,7 +115,7 @@ impl Search {
         if !self.weigh(&mut state, &mut weights) {
             return Attempt::Refuted(nodes);
         }
-        let Some(group) = lightest(&state, &weights, &self.failures, GROUPS) else {
+        let Some(group) = lightest(&state, &weights, &self.failures) else {
             self.guess = state.marks;
             return Attempt::Full;
         };
@@ -133,13 +133,9 @@ impl Search {
     /// A full grid by the first digit left in each open cell, the cell with the fewest left first;
     /// false where there is none.
     fn dive(&mut self, mut state: State) -> bool {
-        while state.decided < VARIABLES {
-            let cell = lightest(&state, &[1; VARIABLES], &[0; VARIABLES], CELLS);
-            let open = |cell| places(cell).find(|&place| state.marks[place] == 0);
-            let next = cell
-                .and_then(open)
-                .and_then(|place| self.closed_with(&state, place as i16 + 1));
-            match next {
+        while let Some(cell) = narrowest(&state) {
+            let open = places(cell).find(|&place| state.marks[place] == 0);
+            match open.and_then(|place| self.closed_with(&state, place as i16 + 1)) {
                 Some(next) => state = next,
                 None => return false,
             }
@@ -194,6 +190,23 @@ impl Search {
     }
 }
 
+/// The first open cell with the fewest digits left, or None where the state is full. A closed state
+/// leaves at least two in each, so that the look ends at a cell with two.
+fn narrowest(state: &State) -> Option<usize> {
+    let mut narrowest = None;
+    let mut fewest = 10;
+    for (cell, marks) in state.marks.chunks_exact(9).enumerate() {
+        let open = marks.iter().filter(|&&mark| mark == 0).count();
+        if open > 0 && open < fewest {
+            (narrowest, fewest) = (Some(cell), open);
+            if open == 2 {
+                break;
+            }
+        }
+    }
+    narrowest
+}
+
 /// How large the tree below a place is taken to be, by the number of places that its trial decides:
 /// half as large for each 12.
 fn weight(decided: usize) -> u32 {
@@ -216,17 +229,16 @@ fn places(group: usize) -> impl Iterator<Item = usize> {
     })
 }
 
-/// The group with no true place, of the first so many, whose undecided places weigh least, or None
-/// where each has a true one. A group weighs less for each failure at one of its places.
+/// The group with no true place whose undecided places weigh least, or None where each has a true
+/// one. A group weighs less for each failure at one of its places.
 fn lightest(
     state: &State,
-    weights: &[u32; 729],
-    failures: &[u32; 729],
-    groups: usize,
+    weights: &[u32; VARIABLES],
+    failures: &[u32; VARIABLES],
 ) -> Option<usize> {
     let mut lightest = None;
     let mut least = u64::MAX;
-    'groups: for group in 0..groups {
+    'groups: for group in 0..GROUPS {
         let (mut sum, mut failed) = (0, 0);
         for place in places(group) {
             match state.marks[place] {
