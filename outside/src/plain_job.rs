@@ -8,8 +8,8 @@
 use crate::grid::{self, VARIABLES};
 use crate::refusal::{demand, demand_none, Refusal};
 
-/// What an undecided place weighs, less its number; a true one weighs twice as much, a false one
-/// nothing. So a sum below twice as much is 0, a contradiction, or names the only place left.
+/// An undecided place weighs this and its number, a true one twice this and its number, a false one
+/// nothing. So a sum below twice this is 0, a contradiction, or names the only place that is left.
 const OPEN: u16 = 1_024;
 
 /// How many groups there are: the cells, then each column, row and box for each digit. Each is a
@@ -46,8 +46,8 @@ impl State {
     }
 }
 
-/// The groups of each place: its cell, and its column, its row and its box for its digit. A table,
-/// since the arithmetic takes as long as all the rest of a strike.
+/// The groups of each place: its cell, and its column, its row and its box for its digit. A table
+/// takes less time than the arithmetic.
 static GROUPS_OF: [[u16; 4]; VARIABLES] = {
     let mut all = [[0; 4]; VARIABLES];
     let mut p = 0;
@@ -94,7 +94,8 @@ impl<const EXTENDED: bool> Closing<EXTENDED> {
         }
     }
 
-    /// An undecided place gets a mark, and weighs so much more.
+    /// An undecided place gets a mark, and weighs so much more. Each of its groups is written to the
+    /// list, and stays there if it may act: that needs no branch.
     #[inline(always)]
     fn assign(&mut self, state: &mut State, p: usize, mark: u8, more: u16) {
         let nines = if EXTENDED { 4 } else { 1 };
