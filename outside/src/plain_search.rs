@@ -78,10 +78,11 @@ impl Search {
         };
         for place in 9 * open..9 * open + 9 {
             if state.marks[place] == 0 && self.found.len() < 2 {
-                if let Some(next) = self.closed_with(state, place as i16 + 1) {
-                    if self.guess[place] == 1 || !self.refuted(&next) {
-                        self.explore(&next);
-                    }
+                let mut next = *state;
+                if self.join(&mut next, place as i16 + 1)
+                    && (self.guess[place] == 1 || !self.refuted(&next))
+                {
+                    self.explore(&next);
                 }
             }
         }
@@ -120,7 +121,8 @@ impl Search {
             return Attempt::Full;
         };
         for place in places(group).filter(|&place| state.marks[place] == 0) {
-            if let Some(next) = self.closed_with(&state, place as i16 + 1) {
+            let mut next = state;
+            if self.join(&mut next, place as i16 + 1) {
                 match self.attempt(next, nodes) {
                     Attempt::Refuted(left) => nodes = left,
                     other => return other,
@@ -135,9 +137,8 @@ impl Search {
     fn dive(&mut self, mut state: State) -> bool {
         while let Some(cell) = narrowest(&state) {
             let open = places(cell).find(|&place| state.marks[place] == 0);
-            match open.and_then(|place| self.closed_with(&state, place as i16 + 1)) {
-                Some(next) => state = next,
-                None => return false,
+            if !open.is_some_and(|place| self.join(&mut state, place as i16 + 1)) {
+                return false;
             }
         }
         self.guess = state.marks;
@@ -162,31 +163,26 @@ impl Search {
                 continue;
             }
             let literal = place as i16 + 1;
-            if let Some(next) = self.closed_with(state, literal) {
+            let mut next = *state;
+            if self.join(&mut next, literal) {
                 *noted = weight(next.decided - state.decided);
-                continue;
-            }
-            let Some(next) = self.closed_with(state, -literal) else {
+            } else if !self.join(state, -literal) {
                 if self.failures[place] < 1_000_000 {
                     self.failures[place] += 4;
                 }
                 return false;
-            };
-            *state = next;
+            }
         }
         true
     }
 
-    fn closed_with(&mut self, state: &State, literal: i16) -> Option<State> {
+    /// The unit closure of a state with one literal more; false for a contradiction.
+    fn join(&mut self, state: &mut State, literal: i16) -> bool {
+        let before = state.decided;
+        let closed = self.closing.join(state, literal);
         self.closures += 1;
-        let mut next = *state;
-        if self.closing.join(&mut next, literal) {
-            self.decided += next.decided - state.decided;
-            Some(next)
-        } else {
-            self.decided += 1;
-            None
-        }
+        self.decided += if closed { state.decided - before } else { 1 };
+        closed
     }
 }
 
