@@ -17,7 +17,7 @@
 //! - [`cases`]: named grids and generated ones;
 //! - [`packed`]: the C functions' answer word;
 //! - [`plain`], [`plain_job`], [`plain_search`]: fast clause, job, search and grading calls for the
-//!   bench;
+//!   bench, and [`simple_job`], the job call by a simpler loop;
 //! - `proved` (feature `proved`): the proved library.
 
 pub mod batch;
@@ -39,3 +39,4 @@ pub mod plain_search;
 pub mod proved;
 pub mod refusal;
 pub mod search;
+pub mod simple_job;

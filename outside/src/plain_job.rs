@@ -1,167 +1,183 @@
 //! The job call by the steps of the proved one, in plain Rust: the bench times the proved call
-//! beside it. A place is a variable less 1. Decided places go on a trail, on which they wait to be
-//! looked at; the four groups of a place are found by arithmetic.
+//! beside it. A place is a variable less 1. Each nine-literal clause has a sum of what its places
+//! weigh, so that a look at the sum tells whether it may act, and on which place. Clauses that may
+//! act are listed and looked at one by one; a place that becomes true strikes the others of its
+//! groups at once, so that no two-literal clause is left to act. Trials that are known to succeed
+//! are only counted.
 
-use crate::grid;
+use crate::grid::{self, VARIABLES};
 use crate::refusal::{demand, demand_none, Refusal};
 
-/// The marks with the number decided.
+/// An undecided place weighs this and its number, a true one twice this and its number, a false one
+/// nothing. So a sum below twice this is 0, a contradiction, or names the only place that is left.
+const OPEN: u16 = 1_024;
+
+/// How many groups there are: the cells, then each column, row and box for each digit. Each is a
+/// nine-literal clause of the extended set; the minimal set has those of the cells.
+const GROUPS: usize = 324;
+
+/// Each place that is decided lists four clauses at most.
+const ROOM: usize = 4 * VARIABLES;
+
+/// The marks, the sums of the nine-literal clauses, and how many places are decided.
 #[derive(Clone, Copy)]
 pub(crate) struct State {
-    pub(crate) marks: [u8; 729],
+    pub(crate) marks: [u8; VARIABLES],
+    sums: [u16; GROUPS],
     pub(crate) decided: usize,
 }
 
-/// The groups of a place: its cell, its row, its column and its box, the last three for its digit.
-#[derive(Clone, Copy)]
-enum Kind {
-    Cell,
-    Row,
-    Column,
-    Box,
+impl State {
+    /// No place decided.
+    fn blank() -> State {
+        let mut sums = [0; GROUPS];
+        for c in 0..81 {
+            let (ninth, place) = (c / 9, c % 9);
+            sums[c] = (9_252 + 81 * c) as u16;
+            sums[81 + c] = (12_132 + 9 * c) as u16;
+            sums[162 + c] = (9_540 + 729 * ninth + 9 * place) as u16;
+            sums[243 + c] = (10_026 + 9 * ninth + 2_187 * (place / 3) + 243 * (place % 3)) as u16;
+        }
+        State {
+            marks: [0; VARIABLES],
+            sums,
+            decided: 0,
+        }
+    }
 }
 
-/// The first place of the group.
+/// The groups of each place: its cell, and its column, its row and its box for its digit. A table
+/// takes less time than the arithmetic.
+static GROUPS_OF: [[u16; 4]; VARIABLES] = {
+    let mut all = [[0; 4]; VARIABLES];
+    let mut p = 0;
+    while p < VARIABLES {
+        all[p] = groups(p as u16);
+        p += 1;
+    }
+    all
+};
+
+const fn groups(p: u16) -> [u16; 4] {
+    [
+        p / 9,
+        81 + p % 81,
+        162 + 9 * (p / 81) + p % 9,
+        243 + 9 * (p % 9) + 3 * (p / 243) + p / 27 % 3,
+    ]
+}
+
+/// The nine places of each group of a place, in the order of `groups`: the first one, and the steps
+/// from three to three and from one to the next.
 #[inline(always)]
-fn base(kind: Kind, p: usize) -> usize {
-    match kind {
-        Kind::Cell => 9 * (p / 9),
-        Kind::Row => 81 * (p / 81) + p % 9,
-        Kind::Column => p % 81,
-        Kind::Box => 243 * (p / 243) + 27 * (p / 27 % 3) + p % 9,
+fn lines(p: usize) -> [[usize; 3]; 4] {
+    [
+        [9 * (p / 9), 3, 1],
+        [p % 81, 243, 81],
+        [81 * (p / 81) + p % 9, 27, 9],
+        [243 * (p / 243) + 27 * (p / 27 % 3) + p % 9, 81, 9],
+    ]
+}
+
+/// Unit closures over the extended clause set, or the minimal one.
+pub(crate) struct Closing<const EXTENDED: bool> {
+    /// The groups that may act, the first so many.
+    list: [u16; ROOM],
+    listed: usize,
+}
+
+impl<const EXTENDED: bool> Closing<EXTENDED> {
+    pub(crate) fn new() -> Self {
+        Closing {
+            list: [0; ROOM],
+            listed: 0,
+        }
     }
-}
 
-#[inline(always)]
-fn offset(kind: Kind, k: usize) -> usize {
-    match kind {
-        Kind::Cell => k,
-        Kind::Row => 9 * k,
-        Kind::Column => 81 * k,
-        Kind::Box => 81 * (k / 3) + 9 * (k % 3),
-    }
-}
-
-/// The trail, with the number of places on it.
-struct Work {
-    trail: [u16; 729],
-    tail: usize,
-}
-
-impl Work {
+    /// An undecided place gets a mark, and weighs so much more. Each of its groups is written to the
+    /// list, and stays there if it may act: that needs no branch.
     #[inline(always)]
-    fn assign(&mut self, marks: &mut [u8; 729], p: usize, mark: u8) {
-        marks[p] = mark;
-        self.trail[self.tail] = p as u16;
-        self.tail += 1;
+    fn assign(&mut self, state: &mut State, p: usize, mark: u8, more: u16) {
+        let nines = if EXTENDED { 4 } else { 1 };
+        for &group in &GROUPS_OF[p][..nines] {
+            let sum = &mut state.sums[usize::from(group)];
+            *sum = sum.wrapping_add(more);
+            self.list[self.listed] = group;
+            self.listed += usize::from(*sum < 2 * OPEN);
+        }
+        state.marks[p] = mark;
+        state.decided += 1;
     }
 
-    /// A true place strikes the other eight of a group.
+    /// An undecided place becomes false.
     #[inline(always)]
-    fn strike(&mut self, marks: &mut [u8; 729], kind: Kind, p: usize) -> bool {
-        let first = base(kind, p);
-        for k in 0..9 {
-            let q = first + offset(kind, k);
-            if q != p {
-                if marks[q] == 1 {
-                    return false;
-                }
-                if marks[q] == 0 {
-                    self.assign(marks, q, 2);
-                }
+    fn strike(&mut self, state: &mut State, p: usize) {
+        self.assign(state, p, 2, (OPEN + p as u16).wrapping_neg());
+    }
+
+    /// An undecided place becomes true, and strikes the others of its groups. Those are noted first,
+    /// without a branch for each.
+    #[inline(always)]
+    fn affirm(&mut self, state: &mut State, p: usize) {
+        self.assign(state, p, 1, OPEN);
+        let mut noted = [0u16; 36];
+        let mut count = 0;
+        let first_pairs = if EXTENDED { 0 } else { 1 };
+        for [first, far, near] in &lines(p)[first_pairs..] {
+            for k in 0..9 {
+                let q = first + far * (k / 3) + near * (k % 3);
+                noted[count] = q as u16;
+                count += usize::from(state.marks[q] == 0);
+            }
+        }
+        for &q in &noted[..count] {
+            let q = usize::from(q);
+            if state.marks[q] == 0 {
+                self.strike(state, q);
+            }
+        }
+    }
+
+    /// Looks at the groups that are listed; false for a contradiction.
+    fn propagate(&mut self, state: &mut State) -> bool {
+        while self.listed > 0 {
+            self.listed -= 1;
+            match state.sums[usize::from(self.list[self.listed])] {
+                0 => return false,
+                sum if sum < 2 * OPEN => self.affirm(state, usize::from(sum - OPEN)),
+                _ => {}
             }
         }
         true
     }
 
-    /// A group with no true place and one undecided makes it true; with none it is a contradiction.
-    #[inline(always)]
-    fn last(&mut self, marks: &mut [u8; 729], kind: Kind, p: usize) -> bool {
-        let first = base(kind, p);
-        let mut open = None;
-        for k in 0..9 {
-            let q = first + offset(kind, k);
-            if marks[q] == 1 || marks[q] == 0 && open.is_some() {
-                return true;
-            }
-            if marks[q] == 0 {
-                open = Some(q);
-            }
-        }
-        if let Some(q) = open {
-            self.assign(marks, q, 1);
-        }
-        open.is_some()
-    }
-
-    fn visit(&mut self, marks: &mut [u8; 729], extended: bool, p: usize) -> bool {
-        if marks[p] == 1 {
-            self.strike(marks, Kind::Row, p)
-                && self.strike(marks, Kind::Column, p)
-                && self.strike(marks, Kind::Box, p)
-                && (!extended || self.strike(marks, Kind::Cell, p))
+    /// The unit closure of a state with one literal more, which it does not decide; false for a
+    /// contradiction.
+    pub(crate) fn join(&mut self, state: &mut State, literal: i16) -> bool {
+        let p = usize::from(literal.unsigned_abs()) - 1;
+        self.listed = 0;
+        if literal > 0 {
+            self.affirm(state, p);
         } else {
-            (!extended
-                || self.last(marks, Kind::Row, p)
-                    && self.last(marks, Kind::Column, p)
-                    && self.last(marks, Kind::Box, p))
-                && self.last(marks, Kind::Cell, p)
+            self.strike(state, p);
         }
+        self.propagate(state)
     }
 
-    /// The unit closure of marks of which all places before the trail are looked at.
-    fn propagate(&mut self, marks: &mut [u8; 729], extended: bool) -> bool {
-        let mut head = 0;
-        while head < self.tail {
-            if !self.visit(marks, extended, usize::from(self.trail[head])) {
-                return false;
+    /// The unit closure of a grid's givens, or None for a contradiction.
+    pub(crate) fn givens(&mut self, grid: &[u8]) -> Option<State> {
+        let mut state = State::blank();
+        for literal in grid::givens(grid) {
+            let closed = match state.marks[literal as usize - 1] {
+                0 => self.join(&mut state, literal),
+                mark => mark == 1,
+            };
+            if !closed {
+                return None;
             }
-            head += 1;
         }
-        true
+        Some(state)
     }
-}
-
-/// The unit closure of a grid's givens, or None for a contradiction.
-pub(crate) fn closed_givens(grid: &[u8], extended: bool) -> Option<State> {
-    let mut state = State {
-        marks: [0; 729],
-        decided: 0,
-    };
-    let mut work = Work {
-        trail: [0; 729],
-        tail: 0,
-    };
-    for (cell, &byte) in grid.iter().enumerate() {
-        if grid::is_given(byte) {
-            work.assign(&mut state.marks, 9 * cell + usize::from(byte - b'1'), 1);
-        }
-    }
-    if !work.propagate(&mut state.marks, extended) {
-        return None;
-    }
-    state.decided = work.tail;
-    Some(state)
-}
-
-/// The unit closure of a closed state with one literal more, or None for a contradiction.
-pub(crate) fn closed_with(state: &State, extended: bool, literal: i16) -> Option<State> {
-    let mut next = *state;
-    let mut work = Work {
-        trail: [0; 729],
-        tail: 0,
-    };
-    let mark = if literal > 0 { 1 } else { 2 };
-    work.assign(
-        &mut next.marks,
-        usize::from(literal.unsigned_abs()) - 1,
-        mark,
-    );
-    if !work.propagate(&mut next.marks, extended) {
-        return None;
-    }
-    next.decided += work.tail;
-    Some(next)
 }
 
 /// The same outcomes, counts, marks and refusals as the job call.
@@ -172,11 +188,12 @@ pub fn job(
     ceiling: u32,
     marks: &mut [u8],
 ) -> Result<(u8, u32), Refusal> {
-    let marks = <&mut [u8; 729]>::try_from(marks).map_err(|_| Refusal::new(41))?;
+    let marks = <&mut [u8; VARIABLES]>::try_from(marks).map_err(|_| Refusal::new(41))?;
     grid::check(grid)?;
     demand((1..=4).contains(&technique), 21)?;
     check_order(order)?;
-    Ok(run(grid, technique, order, ceiling, marks))
+    let sure = [0; VARIABLES];
+    Ok(run(grid, technique, order, ceiling, &sure, marks))
 }
 
 /// 22, 23 and 24 in one pass over the order. The first repeat is kept until the end, since an entry
@@ -198,61 +215,104 @@ pub(crate) fn check_order(order: &[i16]) -> Result<(), Refusal> {
     demand_none(repeat, 24)
 }
 
-/// Outcome, count and marks of a checked job.
+/// Outcome and count of a checked job, and its marks. Literals that are sure, as bits of their
+/// variables, 1 for the positive one and 2 for the negative, are known to succeed in every trial.
 pub(crate) fn run(
     grid: &[u8],
     technique: u32,
     order: &[i16],
     ceiling: u32,
-    marks: &mut [u8; 729],
+    sure: &[u8; VARIABLES],
+    marks: &mut [u8; VARIABLES],
 ) -> (u8, u32) {
-    let extended = technique == 2 || technique == 4;
-    let Some(mut state) = closed_givens(grid, extended) else {
-        *marks = [0; 729];
-        return (4, 0);
+    let ((outcome, count), closed) = if matches!(technique, 2 | 4) {
+        run_over::<true>(grid, technique, order, ceiling, sure)
+    } else {
+        run_over::<false>(grid, technique, order, ceiling, sure)
     };
-    let (outcome, count) = trials(&mut state, technique, extended, order, ceiling);
-    *marks = if outcome == 4 { [0; 729] } else { state.marks };
+    *marks = if outcome == 4 { [0; VARIABLES] } else { closed };
     (outcome, count)
 }
 
-fn trials(
-    state: &mut State,
+fn run_over<const EXTENDED: bool>(
+    grid: &[u8],
     technique: u32,
-    extended: bool,
     order: &[i16],
     ceiling: u32,
+    sure: &[u8; VARIABLES],
+) -> ((u8, u32), [u8; VARIABLES]) {
+    let mut closing = Closing::<EXTENDED>::new();
+    let Some(mut state) = closing.givens(grid) else {
+        return ((4, 0), [0; VARIABLES]);
+    };
+    let answer = if state.decided == VARIABLES {
+        (1, 0)
+    } else if technique < 3 {
+        (2, 0)
+    } else {
+        trials(&mut closing, &mut state, order, ceiling, sure)
+    };
+    (answer, state.marks)
+}
+
+/// Passes over the order until none of the trials in one fails, and how many trials they take. All
+/// that the closure of a trial that succeeds has would succeed too, as long as the state is the
+/// same, so that such a trial is counted and not made.
+fn trials<const EXTENDED: bool>(
+    closing: &mut Closing<EXTENDED>,
+    state: &mut State,
+    order: &[i16],
+    ceiling: u32,
+    sure: &[u8; VARIABLES],
 ) -> (u8, u32) {
-    if state.decided == 729 {
-        return (1, 0);
-    }
-    if technique < 3 {
-        return (2, 0);
-    }
+    let mut known = *sure;
     let mut count = 0;
     loop {
         let mut failed = false;
         for &literal in order {
-            if state.marks[usize::from(literal.unsigned_abs()) - 1] != 0 {
+            let p = usize::from(literal.unsigned_abs()) - 1;
+            if state.marks[p] != 0 {
                 continue;
             }
             if count == ceiling {
                 return (3, count);
             }
             count += 1;
-            if closed_with(state, extended, literal).is_none() {
-                match closed_with(state, extended, -literal) {
-                    None => return (4, count),
-                    Some(next) => *state = next,
-                }
-                if state.decided == 729 {
-                    return (1, count);
-                }
-                failed = true;
+            if known[p] & mark_of(literal) != 0 {
+                continue;
             }
+            let mut with = *state;
+            if closing.join(&mut with, literal) {
+                note(&mut known, &with.marks);
+                continue;
+            }
+            failed = true;
+            if !closing.join(state, -literal) {
+                return (4, count);
+            }
+            if state.decided == VARIABLES {
+                return (1, count);
+            }
+            known = *sure;
         }
         if !failed {
             return (2, count);
         }
+    }
+}
+
+/// A variable's mark where the literal is true, which is its bit too.
+fn mark_of(literal: i16) -> u8 {
+    if literal > 0 {
+        1
+    } else {
+        2
+    }
+}
+
+/// All literals of the marks are known from here on.
+fn note(known: &mut [u8; VARIABLES], marks: &[u8; VARIABLES]) {
+    for (known, mark) in known.iter_mut().zip(marks) {
+        *known |= mark;
     }
 }

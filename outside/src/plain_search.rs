@@ -3,13 +3,14 @@
 //! takes the unit closure over the extended set, and branches on the first open cell with its digits
 //! rising, so completions come in byte order. A branch is entered unless a test finds that it leaves
 //! nothing. The test first dives for a full grid. Else it tries each place, those where it has failed
-//! before first, notes what the trial decides, and branches on the group that promises the smallest tree; it starts again where that is
-//! too large. A full grid that it comes upon is kept as a guess, and a branch that the guess agrees
-//! with needs no test.
+//! before first, notes what the trial decides, and branches on the group that promises the smallest
+//! tree; it starts again where that is too large. A full grid that it comes upon is kept as a guess,
+//! and a branch that the guess agrees with needs no test. The grading needs no order of completions,
+//! so that it first looks for two by a tree without tests.
 
 use crate::cases::Grid;
-use crate::grid::{self, CELLS};
-use crate::plain_job::{check_order, closed_givens, closed_with, run, State};
+use crate::grid::{self, CELLS, VARIABLES};
+use crate::plain_job::{check_order, run, Closing, State};
 use crate::refusal::{demand, Refusal};
 
 /// The smallest completions, at most two, and what finding them took.
@@ -22,8 +23,11 @@ pub struct Search {
     /// goes with.
     pub decided: usize,
     most_closures: usize,
+    closing: Closing<true>,
+    /// The marks of the full grid that a test came upon last.
+    guess: [u8; VARIABLES],
     /// How often a test ended at a place that can be neither true nor false.
-    failures: [u32; 729],
+    failures: [u32; VARIABLES],
 }
 
 /// How many groups there are: the cells, then each house for each digit.
@@ -33,8 +37,8 @@ const GROUPS: usize = 324;
 enum Attempt {
     /// It leaves nothing; so many nodes were not needed.
     Refuted(usize),
-    /// A full grid that it leaves.
-    Full(State),
+    /// It leaves a full grid, which is the guess.
+    Full,
     /// The nodes were too few.
     Spent,
 }
@@ -53,53 +57,49 @@ impl Search {
             closures: 1,
             decided: 0,
             most_closures,
-            failures: [0; 729],
+            closing: Closing::new(),
+            guess: [0; VARIABLES],
+            failures: [0; VARIABLES],
         };
-        if let Some(state) = closed_givens(grid, true) {
-            if let Some(mut guess) = search.tested(state) {
-                search.explore(&state, &mut guess);
+        if let Some(state) = search.closing.givens(grid) {
+            if !search.refuted(&state) {
+                search.explore(&state);
             }
         }
         search
     }
 
     /// The completions of a state, as long as fewer than two are found.
-    fn explore(&mut self, state: &State, guess: &mut State) {
-        let true_digit = |cell| (9 * cell..9 * cell + 9).find(|&place| state.marks[place] == 1);
-        let Some(open) = (0..CELLS).find(|&cell| true_digit(cell).is_none()) else {
-            let digit = |cell| true_digit(cell).map_or(0, |place| b'1' + (place % 9) as u8);
-            self.found.push(std::array::from_fn(digit));
+    fn explore(&mut self, state: &State) {
+        let digits = digits_of(&state.marks);
+        let Some(open) = digits.iter().position(|&digit| digit == 0) else {
+            self.found.push(digits);
             return;
         };
         for place in 9 * open..9 * open + 9 {
             if state.marks[place] == 0 && self.found.len() < 2 {
-                if let Some(next) = self.closed_with(state, place as i16 + 1) {
-                    if guess.marks[place] != 1 {
-                        let Some(near) = self.tested(next) else {
-                            continue;
-                        };
-                        *guess = near;
-                    }
-                    self.explore(&next, guess);
+                let mut next = *state;
+                if self.join(&mut next, place as i16 + 1)
+                    && (self.guess[place] == 1 || !self.refuted(&next))
+                {
+                    self.explore(&next);
                 }
             }
         }
     }
 
-    /// None where a state leaves nothing, else a full grid that it leaves. Each attempt has a third
-    /// more nodes than the one before.
-    fn tested(&mut self, state: State) -> Option<State> {
+    /// Whether a state leaves nothing; else the guess is a full grid that it leaves. Each attempt has
+    /// a third more nodes than the one before.
+    fn refuted(&mut self, state: &State) -> bool {
         let mut nodes = 12;
-        loop {
-            if self.closures >= self.most_closures {
-                return None;
-            }
-            match self.attempt(state, nodes) {
-                Attempt::Refuted(_) => return None,
-                Attempt::Full(full) => return Some(full),
+        while self.closures < self.most_closures {
+            match self.attempt(*state, nodes) {
+                Attempt::Refuted(_) => return true,
+                Attempt::Full => return false,
                 Attempt::Spent => nodes += nodes / 3,
             }
         }
+        true
     }
 
     /// An attempt to refute a state with so many nodes.
@@ -109,34 +109,20 @@ impl Search {
         }
         self.nodes += 1;
         let mut nodes = nodes - 1;
-        if let Some(full) = self.dive(state) {
-            return Attempt::Full(full);
+        if self.dive(state) {
+            return Attempt::Full;
         }
-        let mut weights = [0; 729];
-        for least in [1, 0] {
-            for place in 0..state.marks.len() {
-                if state.marks[place] != 0 || self.failures[place] < least {
-                    continue;
-                }
-                let literal = place as i16 + 1;
-                if let Some(next) = self.closed_with(&state, literal) {
-                    weights[place] = weight(next.decided - state.decided);
-                    continue;
-                }
-                let Some(next) = self.closed_with(&state, -literal) else {
-                    if self.failures[place] < 1_000_000 {
-                        self.failures[place] += 4;
-                    }
-                    return Attempt::Refuted(nodes);
-                };
-                state = next;
-            }
+        let mut weights = [0; VARIABLES];
+        if !self.weigh(&mut state, &mut weights) {
+            return Attempt::Refuted(nodes);
         }
-        let Some(group) = lightest(&state, &weights, &self.failures, GROUPS) else {
-            return Attempt::Full(state);
+        let Some(group) = lightest(&state, &weights, &self.failures) else {
+            self.guess = state.marks;
+            return Attempt::Full;
         };
         for place in places(group).filter(|&place| state.marks[place] == 0) {
-            if let Some(next) = self.closed_with(&state, place as i16 + 1) {
+            let mut next = state;
+            if self.join(&mut next, place as i16 + 1) {
                 match self.attempt(next, nodes) {
                     Attempt::Refuted(left) => nodes = left,
                     other => return other,
@@ -146,22 +132,83 @@ impl Search {
         Attempt::Refuted(nodes)
     }
 
-    /// A full grid by the first digit left in each open cell, the cell with the fewest left first.
-    fn dive(&mut self, mut state: State) -> Option<State> {
-        while state.decided < state.marks.len() {
-            let cell = lightest(&state, &[1; 729], &[0; 729], CELLS)?;
-            let place = places(cell).find(|&place| state.marks[place] == 0)?;
-            state = self.closed_with(&state, place as i16 + 1)?;
+    /// A full grid by the first digit left in each open cell, the cell with the fewest left first;
+    /// false where there is none.
+    fn dive(&mut self, mut state: State) -> bool {
+        while let Some(cell) = narrowest(&state) {
+            let open = places(cell).find(|&place| state.marks[place] == 0);
+            if !open.is_some_and(|place| self.join(&mut state, place as i16 + 1)) {
+                return false;
+            }
         }
-        Some(state)
+        self.guess = state.marks;
+        true
     }
 
-    fn closed_with(&mut self, state: &State, literal: i16) -> Option<State> {
-        let next = closed_with(state, true, literal);
-        self.closures += 1;
-        self.decided += next.map_or(1, |next| next.decided - state.decided);
-        next
+    /// A trial of each place, first of those at which a test has failed before: where it fails, the
+    /// place becomes false, else its weight is noted. False at a place that can be neither.
+    fn weigh(&mut self, state: &mut State, weights: &mut [u32; VARIABLES]) -> bool {
+        self.weigh_from(state, weights, 1) && self.weigh_from(state, weights, 0)
     }
+
+    /// A trial of each place with at least so many failures.
+    fn weigh_from(
+        &mut self,
+        state: &mut State,
+        weights: &mut [u32; VARIABLES],
+        least: u32,
+    ) -> bool {
+        for (place, noted) in weights.iter_mut().enumerate() {
+            if state.marks[place] != 0 || self.failures[place] < least {
+                continue;
+            }
+            let literal = place as i16 + 1;
+            let mut next = *state;
+            if self.join(&mut next, literal) {
+                *noted = weight(next.decided - state.decided);
+            } else if !self.join(state, -literal) {
+                if self.failures[place] < 1_000_000 {
+                    self.failures[place] += 4;
+                }
+                return false;
+            }
+        }
+        true
+    }
+
+    /// The unit closure of a state with one literal more; false for a contradiction.
+    fn join(&mut self, state: &mut State, literal: i16) -> bool {
+        let before = state.decided;
+        let closed = self.closing.join(state, literal);
+        self.closures += 1;
+        self.decided += if closed { state.decided - before } else { 1 };
+        closed
+    }
+}
+
+/// The digit byte that is true in each cell, 0 where none is.
+fn digits_of(marks: &[u8; VARIABLES]) -> Grid {
+    std::array::from_fn(|cell| {
+        let digit = places(cell).position(|place| marks[place] == 1);
+        digit.map_or(0, |digit| b'1' + digit as u8)
+    })
+}
+
+/// The first open cell with the fewest digits left, or None where the state is full. A closed state
+/// leaves at least two in each, so that the look ends at a cell with two.
+fn narrowest(state: &State) -> Option<usize> {
+    let mut narrowest = None;
+    let mut fewest = 10;
+    for (cell, marks) in state.marks.chunks_exact(9).enumerate() {
+        let open = marks.iter().filter(|&&mark| mark == 0).count();
+        if open > 0 && open < fewest {
+            (narrowest, fewest) = (Some(cell), open);
+            if open == 2 {
+                break;
+            }
+        }
+    }
+    narrowest
 }
 
 /// How large the tree below a place is taken to be, by the number of places that its trial decides:
@@ -186,17 +233,16 @@ fn places(group: usize) -> impl Iterator<Item = usize> {
     })
 }
 
-/// The group with no true place, of the first so many, whose undecided places weigh least, or None
-/// where each has a true one. A group weighs less for each failure at one of its places.
+/// The group with no true place whose undecided places weigh least, or None where each has a true
+/// one. A group weighs less for each failure at one of its places.
 fn lightest(
     state: &State,
-    weights: &[u32; 729],
-    failures: &[u32; 729],
-    groups: usize,
+    weights: &[u32; VARIABLES],
+    failures: &[u32; VARIABLES],
 ) -> Option<usize> {
     let mut lightest = None;
     let mut least = u64::MAX;
-    'groups: for group in 0..groups {
+    'groups: for group in 0..GROUPS {
         let (mut sum, mut failed) = (0, 0);
         for place in places(group) {
             match state.marks[place] {
@@ -225,6 +271,42 @@ pub fn search(grid: &[u8], first: &mut [u8], second: &mut [u8]) -> Result<u8, Re
     Ok(found.len() as u8)
 }
 
+/// Closures after which a tree is left for the search. Hard published grids need some hundred, and
+/// where a thousand do not suffice, the search takes longer than they did.
+const TREE: usize = 1_000;
+
+/// The completions of a state, as far as two and in any order, by branching on the cell with the
+/// fewest digits left. Where that suffices, it takes less time than the search's tests.
+struct Tree {
+    closing: Closing<true>,
+    found: Vec<Grid>,
+    closures: usize,
+}
+
+impl Tree {
+    /// Visits a state; false once too many closures are taken.
+    fn visit(&mut self, state: &State) -> bool {
+        let Some(cell) = narrowest(state) else {
+            self.found.push(digits_of(&state.marks));
+            return true;
+        };
+        for place in places(cell).filter(|&place| state.marks[place] == 0) {
+            if self.found.len() == 2 {
+                return true;
+            }
+            if self.closures == TREE {
+                return false;
+            }
+            self.closures += 1;
+            let mut next = *state;
+            if self.closing.join(&mut next, place as i16 + 1) && !self.visit(&next) {
+                return false;
+            }
+        }
+        true
+    }
+}
+
 /// The same verdicts, totals, buffers and refusals as the grading call.
 pub fn grade(
     grid: &[u8],
@@ -235,21 +317,63 @@ pub fn grade(
     demand(completion.len() == CELLS, 42)?;
     grid::check(grid)?;
     check_order(order)?;
-    let found = Search::of(grid).found;
-    let [only] = found[..] else {
+    let mut tree = Tree {
+        closing: Closing::new(),
+        found: Vec::new(),
+        closures: 0,
+    };
+    let closed = tree.closing.givens(grid);
+    if closed.as_ref().is_some_and(|state| !tree.visit(state)) {
+        tree.found = Search::of(grid).found;
+    }
+    let [only] = tree.found[..] else {
         completion.fill(0);
-        return Ok((if found.is_empty() { 0 } else { 7 }, 0));
+        return Ok((if tree.found.is_empty() { 0 } else { 7 }, 0));
     };
     completion.copy_from_slice(&only);
+    let solved = closed.is_some_and(|state| state.decided == VARIABLES);
+    Ok(by_techniques(
+        grid,
+        order,
+        ceiling,
+        &marks_of(&only),
+        solved,
+    ))
+}
+
+/// Verdicts 1 to 6, with the trials that they take, where it is known whether technique 2 solves.
+/// All literals of the completion are sure to succeed: they contradict no state that is reached from
+/// the givens.
+fn by_techniques(
+    grid: &[u8],
+    order: &[i16],
+    ceiling: u32,
+    completion: &[u8; VARIABLES],
+    solved_by_two: bool,
+) -> (u8, u32) {
+    let run = |technique, ceiling| {
+        let marks = &mut [0; VARIABLES];
+        run(grid, technique, order, ceiling, completion, marks)
+    };
+    if solved_by_two {
+        let (outcome, _) = run(1, ceiling);
+        return (if outcome == 1 { 1 } else { 2 }, 0);
+    }
     let mut trials = 0;
-    for technique in 1..=4 {
-        let (outcome, count) = run(grid, technique, order, ceiling - trials, &mut [0; 729]);
+    for technique in [3, 4] {
+        let (outcome, count) = run(technique, ceiling - trials);
         trials += count;
         match outcome {
-            1 => return Ok((technique as u8, trials)),
-            3 => return Ok((6, trials)),
+            1 => return (technique as u8, trials),
+            3 => return (6, trials),
             _ => {}
         }
     }
-    Ok((5, trials))
+    (5, trials)
+}
+
+/// The marks of a full grid.
+fn marks_of(full: &Grid) -> [u8; VARIABLES] {
+    let digit = |place| usize::from(full[place / 9] - b'1');
+    std::array::from_fn(|place| if place % 9 == digit(place) { 1 } else { 2 })
 }

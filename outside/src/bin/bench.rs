@@ -1,11 +1,12 @@
 //! Times the proved calls and prints a table of times, ours beside another program's, with their
 //! ratio. Beside plain Rust of the same steps, medians of alternating repetitions: the clause call
 //! over all numbers of both sets; jobs of each technique and their trials, searches and gradings on
-//! sets of grids; and the search that takes longest of those on grids that cost much. It checks first
-//! that both give equal answers; no figure makes it fail. Searches stand beside qqwing, and beside
-//! cadical, which gets a formula to find a completion and one with that blocked, where these are
-//! installed; their start, their reading and their output count. Last, the program that the
-//! environment names as GRADELIST grades files of lines, beside the reference's listing.
+//! sets of grids; and the search that takes longest of those on grids that cost much. Jobs with
+//! trials stand beside the simple loop too. It checks first that both sides give equal answers; no
+//! figure makes it fail. Searches stand beside qqwing, and beside cadical, which gets a formula to
+//! find a completion and one with that blocked, where these are installed; their start, their reading
+//! and their output count. Last, the program that the environment names as GRADELIST grades files of
+//! lines, beside the reference's listing.
 
 use reference::cases::{bad, slow, Grid, Random, AI_ESCARGOT, FIGURE_FIVE};
 use reference::clauses::clause_set;
@@ -14,7 +15,7 @@ use reference::grid::{CELLS, VARIABLES};
 use reference::listing::gradelist;
 use reference::order::default_order;
 use reference::refusal::Refusal;
-use reference::{plain, plain_job, plain_search, proved};
+use reference::{plain, plain_job, plain_search, proved, simple_job};
 use std::fs::File;
 use std::hint::black_box;
 use std::path::Path;
@@ -82,6 +83,7 @@ fn main() -> Result<(), String> {
         jobs("generated", &generated, technique)?;
     }
     let published = [&[*AI_ESCARGOT], &figure_five[..]].concat();
+    jobs_beside("published", &published, 4, "simple", simple_job::job)?;
     for (name, grids) in [("published", &published), ("generated", &generated)] {
         searches(name, grids)?;
         beside_qqwing(name, grids).map_err(|error| format!("qqwing: {error}"))?;
@@ -156,7 +158,7 @@ fn clause_time(sizes: [u32; 2], call: impl Fn(u32, u32, &mut [i16]) -> u64) -> f
 /// The times of a call on some grids, in nanoseconds a call.
 struct Times {
     proved: f64,
-    plain: f64,
+    beside: f64,
     /// Trials a call.
     trials: f64,
 }
@@ -168,28 +170,28 @@ fn times(
     grids: &[Grid],
     length: usize,
     proved: impl Fn(&Grid, &mut [u8]) -> Answer,
-    plain: impl Fn(&Grid, &mut [u8]) -> Answer,
+    beside: impl Fn(&Grid, &mut [u8]) -> Answer,
 ) -> Result<Times, String> {
     let mut trials = 0;
     for grid in grids {
         let (mut ours, mut theirs) = (vec![77; length], vec![77; length]);
-        let (proved, plain) = (proved(grid, &mut theirs), plain(grid, &mut ours));
-        if proved != plain || ours != theirs {
+        let (proved, beside) = (proved(grid, &mut ours), beside(grid, &mut theirs));
+        if proved != beside || ours != theirs {
             return Err(format!(
-                "{name}: proved {proved:?} and plain {plain:?}, or their buffers, differ"
+                "{name}: proved {proved:?} and beside it {beside:?}, or their buffers, differ"
             ));
         }
         trials += proved.map_or(0, |(_, count)| count);
     }
-    let rounds = REPETITION / (grids.len() as f64 * time(grids, length, &plain, 1));
+    let rounds = REPETITION / (grids.len() as f64 * time(grids, length, &beside, 1));
     let rounds = rounds.max(1.0) as usize;
-    let [proved, plain] = medians(
+    let [proved, beside] = medians(
         || time(grids, length, &proved, rounds),
-        || time(grids, length, &plain, rounds),
+        || time(grids, length, &beside, rounds),
     );
     Ok(Times {
         proved,
-        plain,
+        beside,
         trials: f64::from(trials) / grids.len() as f64,
     })
 }
@@ -211,8 +213,25 @@ fn time(
     start.elapsed().as_nanos() as f64 / (rounds * grids.len()) as f64
 }
 
-/// Jobs of one technique on some grids, under the default order and no ceiling.
+/// Jobs of one technique on some grids beside the plain ones, and those with trials beside the
+/// simple loop too.
 fn jobs(name: &str, grids: &[Grid], technique: u32) -> Result<(), String> {
+    jobs_beside(name, grids, technique, "plain", plain_job::job)?;
+    if technique > 2 {
+        jobs_beside(name, grids, technique, "simple", simple_job::job)?;
+    }
+    Ok(())
+}
+
+/// Jobs under the default order and no ceiling. Generic over the call, so that each side is a direct
+/// call.
+fn jobs_beside(
+    name: &str,
+    grids: &[Grid],
+    technique: u32,
+    beside: &str,
+    call: impl Fn(&[u8], u32, &[i16], u32, &mut [u8]) -> Answer,
+) -> Result<(), String> {
     let order = default_order();
     let name = format!("technique {technique}, {name}");
     let times = times(
@@ -220,18 +239,13 @@ fn jobs(name: &str, grids: &[Grid], technique: u32) -> Result<(), String> {
         grids,
         VARIABLES,
         |grid, marks| proved::job(grid, technique, &order, u32::MAX, marks),
-        |grid, marks| plain_job::job(grid, technique, &order, u32::MAX, marks),
+        |grid, marks| call(grid, technique, &order, u32::MAX, marks),
     )?;
-    let (proved, plain) = (times.proved, times.plain);
-    row(&name, "job", proved, "plain", plain);
+    let (ours, theirs) = (times.proved, times.beside);
+    row(&name, "job", ours, beside, theirs);
     if times.trials > 0.0 {
-        row(
-            &name,
-            "trial",
-            proved / times.trials,
-            "plain",
-            plain / times.trials,
-        );
+        let [ours, theirs] = [ours, theirs].map(|time| time / times.trials);
+        row(&name, "trial", ours, beside, theirs);
     }
     Ok(())
 }
@@ -251,7 +265,7 @@ fn searches(name: &str, grids: &[Grid]) -> Result<(), String> {
         |grid, buffer| searched(proved::search, grid, buffer),
         |grid, buffer| searched(plain_search::search, grid, buffer),
     )?;
-    row(&name, "search", times.proved, "plain", times.plain);
+    row(&name, "search", times.proved, "plain", times.beside);
     Ok(())
 }
 
@@ -266,7 +280,7 @@ fn gradings(name: &str, grids: &[Grid]) -> Result<(), String> {
         |grid, completion| proved::grade(grid, &order, u32::MAX, completion),
         |grid, completion| plain_search::grade(grid, &order, u32::MAX, completion),
     )?;
-    row(&name, "grading", times.proved, "plain", times.plain);
+    row(&name, "grading", times.proved, "plain", times.beside);
     Ok(())
 }
 
