@@ -5,8 +5,7 @@
 //! nothing. The test first dives for a full grid. Else it tries each place, those where it has failed
 //! before first, notes what the trial decides, and branches on the group that promises the smallest
 //! tree; it starts again where that is too large. A full grid that it comes upon is kept as a guess,
-//! and a branch that the guess agrees with needs no test. The grading needs no order of completions,
-//! so that it first looks for two by a tree without tests.
+//! and a branch that the guess agrees with needs no test.
 
 use crate::cases::Grid;
 use crate::grid::{self, CELLS, VARIABLES};
@@ -71,9 +70,10 @@ impl Search {
 
     /// The completions of a state, as long as fewer than two are found.
     fn explore(&mut self, state: &State) {
-        let digits = digits_of(&state.marks);
-        let Some(open) = digits.iter().position(|&digit| digit == 0) else {
-            self.found.push(digits);
+        let true_digit = |cell| (9 * cell..9 * cell + 9).find(|&place| state.marks[place] == 1);
+        let Some(open) = (0..CELLS).find(|&cell| true_digit(cell).is_none()) else {
+            let digit = |cell| true_digit(cell).map_or(0, |place| b'1' + (place % 9) as u8);
+            self.found.push(std::array::from_fn(digit));
             return;
         };
         for place in 9 * open..9 * open + 9 {
@@ -186,14 +186,6 @@ impl Search {
     }
 }
 
-/// The digit byte that is true in each cell, 0 where none is.
-fn digits_of(marks: &[u8; VARIABLES]) -> Grid {
-    std::array::from_fn(|cell| {
-        let digit = places(cell).position(|place| marks[place] == 1);
-        digit.map_or(0, |digit| b'1' + digit as u8)
-    })
-}
-
 /// The first open cell with the fewest digits left, or None where the state is full. A closed state
 /// leaves at least two in each, so that the look ends at a cell with two.
 fn narrowest(state: &State) -> Option<usize> {
@@ -271,42 +263,6 @@ pub fn search(grid: &[u8], first: &mut [u8], second: &mut [u8]) -> Result<u8, Re
     Ok(found.len() as u8)
 }
 
-/// Closures after which a tree is left for the search. Hard published grids need some hundred, and
-/// where a thousand do not suffice, the search takes longer than they did.
-const TREE: usize = 1_000;
-
-/// The completions of a state, as far as two and in any order, by branching on the cell with the
-/// fewest digits left. Where that suffices, it takes less time than the search's tests.
-struct Tree {
-    closing: Closing<true>,
-    found: Vec<Grid>,
-    closures: usize,
-}
-
-impl Tree {
-    /// Visits a state; false once too many closures are taken.
-    fn visit(&mut self, state: &State) -> bool {
-        let Some(cell) = narrowest(state) else {
-            self.found.push(digits_of(&state.marks));
-            return true;
-        };
-        for place in places(cell).filter(|&place| state.marks[place] == 0) {
-            if self.found.len() == 2 {
-                return true;
-            }
-            if self.closures == TREE {
-                return false;
-            }
-            self.closures += 1;
-            let mut next = *state;
-            if self.closing.join(&mut next, place as i16 + 1) && !self.visit(&next) {
-                return false;
-            }
-        }
-        true
-    }
-}
-
 /// The same verdicts, totals, buffers and refusals as the grading call.
 pub fn grade(
     grid: &[u8],
@@ -317,51 +273,28 @@ pub fn grade(
     demand(completion.len() == CELLS, 42)?;
     grid::check(grid)?;
     check_order(order)?;
-    let mut tree = Tree {
-        closing: Closing::new(),
-        found: Vec::new(),
-        closures: 0,
-    };
-    let closed = tree.closing.givens(grid);
-    if closed.as_ref().is_some_and(|state| !tree.visit(state)) {
-        tree.found = Search::of(grid).found;
-    }
-    let [only] = tree.found[..] else {
+    let found = Search::of(grid).found;
+    let [only] = found[..] else {
         completion.fill(0);
-        return Ok((if tree.found.is_empty() { 0 } else { 7 }, 0));
+        return Ok((if found.is_empty() { 0 } else { 7 }, 0));
     };
     completion.copy_from_slice(&only);
-    let solved = closed.is_some_and(|state| state.decided == VARIABLES);
-    Ok(by_techniques(
-        grid,
-        order,
-        ceiling,
-        &marks_of(&only),
-        solved,
-    ))
+    Ok(by_techniques(grid, order, ceiling, &marks_of(&only)))
 }
 
-/// Verdicts 1 to 6, with the trials that they take, where it is known whether technique 2 solves.
-/// All literals of the completion are sure to succeed: they contradict no state that is reached from
-/// the givens.
+/// Verdicts 1 to 6, with the trials that they take. All literals of the completion are sure to
+/// succeed: they contradict no state that is reached from the givens.
 fn by_techniques(
     grid: &[u8],
     order: &[i16],
     ceiling: u32,
     completion: &[u8; VARIABLES],
-    solved_by_two: bool,
 ) -> (u8, u32) {
-    let run = |technique, ceiling| {
-        let marks = &mut [0; VARIABLES];
-        run(grid, technique, order, ceiling, completion, marks)
-    };
-    if solved_by_two {
-        let (outcome, _) = run(1, ceiling);
-        return (if outcome == 1 { 1 } else { 2 }, 0);
-    }
     let mut trials = 0;
-    for technique in [3, 4] {
-        let (outcome, count) = run(technique, ceiling - trials);
+    for technique in 1..=4 {
+        let left = ceiling - trials;
+        let marks = &mut [0; VARIABLES];
+        let (outcome, count) = run(grid, technique, order, left, completion, marks);
         trials += count;
         match outcome {
             1 => return (technique as u8, trials),
