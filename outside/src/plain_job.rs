@@ -46,19 +46,10 @@ impl State {
     }
 }
 
-/// The groups of each place: its cell, and its column, its row and its box for its digit. A table
-/// takes less time than the arithmetic.
-static GROUPS_OF: [[u16; 4]; VARIABLES] = {
-    let mut all = [[0; 4]; VARIABLES];
-    let mut p = 0;
-    while p < VARIABLES {
-        all[p] = groups(p as u16);
-        p += 1;
-    }
-    all
-};
-
-const fn groups(p: u16) -> [u16; 4] {
+/// The groups of a place: its cell, and its column, its row and its box for its digit. A table would
+/// take less time; the proved loop has none, since its toolchain builds a constant array at each use.
+#[inline(always)]
+fn groups(p: u16) -> [u16; 4] {
     [
         p / 9,
         81 + p % 81,
@@ -99,7 +90,7 @@ impl<const EXTENDED: bool> Closing<EXTENDED> {
     #[inline(always)]
     fn assign(&mut self, state: &mut State, p: usize, mark: u8, more: u16) {
         let nines = if EXTENDED { 4 } else { 1 };
-        for &group in &GROUPS_OF[p][..nines] {
+        for &group in &groups(p as u16)[..nines] {
             let sum = &mut state.sums[usize::from(group)];
             *sum = sum.wrapping_add(more);
             self.list[self.listed] = group;
