@@ -1,17 +1,15 @@
 -- A job call by what its checks say.
 -- Assumes nothing.
 use mathlib.Core.Path.{_≡_, refl, sym, ap}
-use mathlib.Core.Bool.{Bool, true, false, cond}
+use mathlib.Core.Bool.{cond}
 use mathlib.Core.List.{List}
 use Prim.Native.Nat.{ℕ}
-use borrow.Author.Tests.{eqb-true, eq-eqb, ne-eqb}
-use lib.Dec.{eqb}
+use borrow.Author.Tests.{eq-eqb, ne-eqb}
 use lib.IntN.{ℤ}
 use lib.ListN.{length}
 use Rattle.grid.specs.Refusals.{refusal, onAccepted, gridCheck}
 use Rattle.grid.specs.declared.Checked.{Checked}
 use Rattle.grid.specs.declared.Checked.the-variants as check
-use Rattle.grid.proofs.Completion.{not-accepted}
 use Rattle.inference.specs.Order.{orderCheck}
 use Rattle.inference.specs.Technique.{techniqueOf, onKnown}
 use Rattle.inference.specs.Call.{jobOf, refused, jobCall}
@@ -29,12 +27,3 @@ module _ (g : List ℕ) (n : ℕ) (o : List ℤ) (c : ℕ) (m : List ℕ) where
       → onAccepted x (refused m) (λ u. onKnown y (refused m) λ t. onAccepted z (refused m) λ v. jobOf t g o c) ≡ jobCall g n o c m
   unfolding jobCall
   call-checked h x y z p q r = rw (eq-eqb (length m) 729 h, ← p, ← q, ← r) refl
-
--- an accepted grid has 81 bytes
-pub accepted-long : (g : List ℕ) → gridCheck g ≡ check.Accepted → length g ≡ 81
-unfolding gridCheck
-accepted-long g e = go (eqb (length g) 81) refl
-  where
-    go : (b : Bool) → eqb (length g) 81 ≡ b → length g ≡ 81
-    go true p = eqb-true (length g) 81 p
-    go false p = absurd (not-accepted (refusal 11 0) (rw p at e))

@@ -6,10 +6,10 @@ use mathlib.Core.Path.{_≡_, refl, ap, sym, subst, _∙_}
 use mathlib.Core.Logic.{_⊎_, inl, inr, ⊎-elim}
 use mathlib.Core.Bool.{false}
 use mathlib.Core.List.{List, List·Memᴰ}
-use Prim.Native.Nat.{ℕ, zero, suc, _+_, _*_, _/_, _%_, max, _≤_, _<_}
+use Prim.Native.Nat.{ℕ, zero, suc, _/_, _%_, max, _≤_, _<_}
 use native.Mathlib.Decide.{decLt, ℕ-discrete}
 use native.Mathlib.Omega.{arith}
-use lib.Bits.{bitOr, or-step, or-zero-l}
+use lib.Bits.{bitOr, or-step}
 use lib.Dec.{T}
 use lib.IntN.{ℤ, pos, negsuc, negℤ}
 use lib.ListN.{length, getD, replicate, length-replicate}
@@ -19,7 +19,7 @@ use Rattle.clauses.specs.Clauses.{clausesOf}
 use Rattle.clauses.specs.Models.{holds, truthOf, givens}
 use Rattle.clauses.proofs.ModelsAreCompletions.{models-are-completions}
 use Rattle.clauses.specs.declared.ClauseSet.{ClauseSet}
-use Rattle.closure.specs.Sets.{Least, IsLeast}
+use Rattle.closure.specs.Sets.{IsLeast}
 use Rattle.closure.specs.Closure.{With, UnitClosed}
 use Rattle.closure.specs.Marks.{has, isDecided, mark, IsMarks}
 use Rattle.closure.specs.Propagation.{Answer, clash, closed, unitClosure, Closes}
@@ -30,7 +30,7 @@ use Rattle.closure.proofs.Marks.{has-consistent, has-mark, or-iff, zeros}
 use Rattle.closure.proofs.ClauseSets.{well-formed}
 use Rattle.closure.proofs.Propagation.{unit-closure-ok}
 use Rattle.propagation.proofs.Literals.{place-below, index-place}
-use Rattle.inference.specs.Known.{Names, Named, Succeeds, KnownOk, Possible, PossibleOk, CompletionOk}
+use Rattle.inference.specs.Known.{Names, Named, Succeeds, KnownOk, PossibleOk, CompletionOk}
 
 -- the larger of two remainders by 2
 odd-or : (a b : ℕ) → max (a % 2) (b % 2) ≡ 1 → (a % 2 ≡ 1) ⊎ (b % 2 ≡ 1)

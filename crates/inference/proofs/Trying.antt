@@ -4,15 +4,13 @@ use mathlib.Core.Path.{_≡_, refl, ap, sym, subst, _∙_}
 use mathlib.Core.Logic.{inl, inr, ⊎-elim}
 use mathlib.Core.Bool.{Bool, true, false, cond}
 use mathlib.Core.List.{List}
-use Prim.Native.Nat.{ℕ, zero, suc, _+_}
-use native.Mathlib.Omega.{arith}
+use Prim.Native.Nat.{ℕ, _+_}
 use lib.Dec.{T, eqb}
-use lib.IntN.{ℤ, pos, negsuc, negℤ, negℤ-negℤ}
+use lib.IntN.{ℤ, pos, negℤ, negℤ-negℤ}
 use lib.ListN.{getD}
 use Rattle.clauses.specs.Literal.{Literal, isLiteral, negation}
 use Rattle.clauses.proofs.Signed.{literal-iff}
 use Rattle.clauses.specs.Clauses.{Clause}
-use Rattle.clauses.specs.declared.ClauseSet.{ClauseSet}
 use Rattle.closure.specs.Marks.{has, isDecided, mark, decided, IsMarks}
 use Rattle.closure.specs.Propagation.{Answer, clash, unitClosure}
 use Rattle.closure.specs.Job.{Step, kept, refuted, broken, try, stepOf, step, Walk, walked, ended, after, isFull, solved, stopped}
@@ -22,7 +20,7 @@ use Rattle.grid.proofs.Table.{true-is, false-is}
 use Rattle.propagation.specs.Steps.{answerOf}
 use Rattle.propagation.specs.declared.close.Reached.{Reached}
 use Rattle.propagation.specs.declared.close.Reached.the-variants.{Clash, Decided}
-use Rattle.propagation.proofs.Literals.{placeAt, open-byte, byte-open}
+use Rattle.propagation.proofs.Literals.{placeAt, open-byte}
 
 not-not : (b : Bool) → ((T b → ⊥) → ⊥) → T b
 not-not true n = tt

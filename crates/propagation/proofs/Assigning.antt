@@ -3,13 +3,13 @@
 -- Assumes nothing.
 use mathlib.Core.Path.{_≡_, refl, ap, sym, subst, _∙_}
 use mathlib.Core.Logic.{_⊎_, inl, inr, ⊎-elim}
-use mathlib.Core.Bool.{Bool, true, false, cond, _||_}
+use mathlib.Core.Bool.{cond, _||_}
 use mathlib.Core.List.{List, [], _∷_}
 use Prim.Native.Nat.{ℕ, zero, suc, _+_, _*_, _-_, _/_, _≤_, _<_}
 use native.Mathlib.Decide.{ℕ-discrete, decLt}
 use native.Mathlib.Omega.{arith}
 use borrow.Author.Tests.{lt-ltb, le-ltb}
-use lib.Dec.{T, eqb, ltb}
+use lib.Dec.{eqb}
 use lib.ListN.{length, getD, set, length-set}
 use lib.Seq.{getD-set-same, getD-set-other}
 use Rattle.grid.specs.Counting.{tick}
@@ -17,11 +17,11 @@ use Rattle.clauses.specs.Shape.{placeOf}
 use Rattle.clauses.specs.declared.ClauseSet.{ClauseSet}
 use Rattle.closure.specs.Marks.{decidedIn, decided, IsMarks}
 use Rattle.closure.proofs.Marks.{decided-bounded}
-use Rattle.propagation.specs.Groups.{groupAt, groupIn, clauseIn, kindAt, numberOf, indexAt, slotAt, nineKinds}
-use Rattle.propagation.specs.Sums.{weight, sumOf}
+use Rattle.propagation.specs.Groups.{groupIn, clauseIn, kindAt, indexAt, slotAt, nineKinds}
+use Rattle.propagation.specs.Sums.{sumOf}
 use Rattle.propagation.specs.Acting.{Listed, At, Undecided, IsSign, Ready, Weighable, Weighed, sumAfter}
 use Rattle.propagation.specs.declared.acting.Work.{Work}
-use Rattle.propagation.proofs.Slots.{number-at, slot-kind, slot-below, slot-group, index-at, slot-place, nines-below}
+use Rattle.propagation.proofs.Slots.{number-at, slot-kind, slot-group, index-at, slot-place, nines-below}
 use Rattle.propagation.proofs.Sums.{sum-marked, sum-kept, sum-least, sum-most}
 
 -- a mark at an undecided place decides one variable more

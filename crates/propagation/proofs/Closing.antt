@@ -1,15 +1,15 @@
 -- The end of propagation: with no clause listed the marks are closed, so that they are the unit closure; and the start: in closed marks no clause
 -- may act.
 -- Assumes nothing.
-use mathlib.Core.Path.{_≡_, refl, ap, sym, subst, _∙_}
+use mathlib.Core.Path.{_≡_, ap, sym, subst, _∙_}
 use mathlib.Core.Logic.{_⊎_, inl, inr, ⊎-elim, _↔_}
 use mathlib.Core.List.{List, List·Memᴰ}
-use Prim.Native.Nat.{ℕ, zero, suc, _+_, _*_, _≤_, _<_}
+use Prim.Native.Nat.{ℕ, suc, _≤_, _<_}
 use native.Mathlib.Decide.{decLt}
 use native.Mathlib.Omega.{arith}
 use lib.Dec.{T}
 use lib.IntN.{ℤ, pos, negsuc, negℤ}
-use lib.ListN.{length, getD, set}
+use lib.ListN.{length, set}
 use Rattle.clauses.specs.Clauses.{clausesOf}
 use Rattle.clauses.specs.Literal.{Literal}
 use Rattle.clauses.specs.Models.{givens}
@@ -25,8 +25,8 @@ use Rattle.closure.proofs.Closure.{contradiction-mono}
 use Rattle.closure.proofs.Marks.{has-single, has-mark, is-marks-mark, or-iff}
 use Rattle.closure.proofs.ClauseSets.{well-formed}
 use Rattle.closure.proofs.Propagation.{InMarks, unit-closure-ok, unit-closure-marks, closes-same, closes-unique, givens-closed}
-use Rattle.propagation.specs.Groups.{groupAt, groupIn, indexAt, kindAt, numberOf, slotAt, PairKind, NineKind, firstPair}
-use Rattle.propagation.specs.Sums.{InSlots, SumsOk, sumOf}
+use Rattle.propagation.specs.Groups.{groupAt, groupIn, indexAt, kindAt, numberOf, slotAt, PairKind}
+use Rattle.propagation.specs.Sums.{InSlots, sumOf}
 use Rattle.propagation.specs.Acting.{True, False, Undecided, Ready, Struck, Stepped}
 use Rattle.propagation.specs.Steps.{MarksOk, StateOk, StateLeft, answerOf, ClosesTo}
 use Rattle.propagation.specs.declared.acting.Work.{Work}

@@ -14,16 +14,15 @@ use Rattle.grid.specs.Counting.{all, total}
 use Rattle.grid.specs.Grid.{byte, isDigit, digitOf}
 use Rattle.grid.specs.House.{cellOf}
 use Rattle.grid.proofs.Counting.{all-iff, total-same}
-use Rattle.grid.proofs.Completion.{digit-iff}
 use Rattle.clauses.specs.Clauses.{clausesOf}
 use Rattle.clauses.specs.Models.{givens}
 use Rattle.clauses.specs.Shape.{placeOf}
 use Rattle.clauses.specs.declared.ClauseSet.{ClauseSet}
 use Rattle.clauses.specs.declared.ClauseSet.the-variants.{Extended}
 use Rattle.clauses.proofs.Members.{givens-iff, given-variable}
-use Rattle.closure.specs.Sets.{Least, IsLeast}
+use Rattle.closure.specs.Sets.{IsLeast}
 use Rattle.closure.specs.Closure.{With, UnitClosed}
-use Rattle.closure.specs.Marks.{has, decidedIn, decided, blank}
+use Rattle.closure.specs.Marks.{has, decidedIn, blank}
 use Rattle.closure.specs.Propagation.{closed, Closes}
 use Rattle.closure.proofs.Sets.{least-given, least-mono}
 use Rattle.closure.proofs.Marks.{zeros, has-blank, is-marks-blank}
@@ -32,7 +31,6 @@ use Rattle.propagation.specs.Groups.{groupIn}
 use Rattle.propagation.specs.Sums.{weight, sumOf, SumsOk, blankSum}
 use Rattle.propagation.specs.Steps.{StateOk, answerOf, ClosesTo}
 use Rattle.propagation.specs.declared.close.Reached.{Reached}
-use Rattle.propagation.specs.declared.close.Reached.the-variants.{Decided}
 use Rattle.propagation.proofs.Slots.{nines-below}
 use Rattle.propagation.proofs.Rules.{groups-closed}
 use Rattle.propagation.proofs.Closing.{closes-between}

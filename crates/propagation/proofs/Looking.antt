@@ -4,11 +4,11 @@
 use mathlib.Core.Path.{_≡_, refl, ap, sym, subst, _∙_}
 use mathlib.Core.Logic.{_⊎_, inl, inr, ⊎-elim}
 use mathlib.Core.List.{List}
-use Prim.Native.Nat.{ℕ, suc, _+_, _*_, _-_, _≤_, _<_}
+use Prim.Native.Nat.{ℕ, suc, _+_, _-_, _≤_, _<_}
 use native.Mathlib.Decide.{decLt}
 use native.Mathlib.Omega.{arith}
 use lib.Dec.{T}
-use lib.IntN.{ℤ, pos, negsuc}
+use lib.IntN.{pos}
 use lib.ListN.{getD, set}
 use Rattle.clauses.specs.Clauses.{clausesOf}
 use Rattle.clauses.specs.Shape.{placeOf}
@@ -19,7 +19,7 @@ use Rattle.closure.specs.Marks.{has}
 use Rattle.closure.proofs.Sets.{least-given, least-within}
 use Rattle.closure.proofs.Closure.{contradiction-mono}
 use Rattle.closure.proofs.Marks.{decided-bounded}
-use Rattle.propagation.specs.Groups.{groupIn, clauseIn, nineKinds}
+use Rattle.propagation.specs.Groups.{groupIn, clauseIn}
 use Rattle.propagation.specs.Sums.{InSlots, sumOf}
 use Rattle.propagation.specs.Acting.{AllBut, Listed, At, Undecided, Ready, Struck, Follows, Clashes, Stepped, Less}
 use Rattle.propagation.specs.declared.acting.Work.{Work}

@@ -3,7 +3,7 @@
 use mathlib.Core.Path.{_≡_, refl, ap, sym, subst, _∙_}
 use mathlib.Core.Logic.{_⊎_, inl, inr, ⊎-elim}
 use mathlib.Core.List.{List}
-use Prim.Native.Nat.{ℕ, suc, _+_, _≤_, _<_}
+use Prim.Native.Nat.{ℕ, suc, _+_, _<_}
 use native.Mathlib.Decide.{decLt}
 use native.Mathlib.Omega.{arith}
 use lib.IntN.{pos, negsuc}
@@ -12,7 +12,7 @@ use Rattle.clauses.specs.declared.ClauseSet.{ClauseSet}
 use Rattle.propagation.specs.Acting.{True, False, Listed, Ready, Strikes}
 use Rattle.propagation.specs.declared.acting.Work.{Work}
 use Rattle.propagation.proofs.Literals.{has-set}
-use Rattle.propagation.proofs.Sums.{true-byte, false-byte, byte-true}
+use Rattle.propagation.proofs.Sums.{true-byte, false-byte}
 
 -- a literal is not both positive and negative
 pub signs-differ : (a b : ℕ) → pos (suc a) ≡ negsuc b → ⊥

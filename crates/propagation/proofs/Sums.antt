@@ -1,13 +1,11 @@
 -- Sums of weights: what a sum below 2,048 tells, and how a sum changes with a mark.
 -- Assumes nothing.
-use mathlib.Core.Path.{_≡_, refl, ap, sym, subst, _∙_}
+use mathlib.Core.Path.{_≡_, refl, ap, sym, _∙_}
 use mathlib.Core.Logic.{_⊎_, inl, inr, ⊎-elim}
 use mathlib.Core.List.{List}
 use Prim.Native.Nat.{ℕ, zero, suc, _+_, _*_, _≤_, _<_}
 use native.Mathlib.Decide.{ℕ-discrete}
 use native.Mathlib.Omega.{arith}
-use lib.Dec.{T}
-use lib.IntN.{pos, negsuc}
 use lib.ListN.{length, getD, set}
 use lib.Seq.{getD-set-same, getD-set-other}
 use Rattle.grid.specs.Counting.{total}
@@ -18,7 +16,7 @@ use Rattle.clauses.specs.declared.Group.{Group}
 use Rattle.closure.specs.Marks.{has, IsMarks}
 use Rattle.propagation.specs.Groups.{groupIn}
 use Rattle.propagation.specs.Sums.{weight, sumOf}
-use Rattle.propagation.specs.Acting.{True, False, AllBut, Undecided}
+use Rattle.propagation.specs.Acting.{True, False, AllBut}
 use Rattle.propagation.proofs.Slots.{slot-place, slot-once}
 
 -- two sums that differ at one number

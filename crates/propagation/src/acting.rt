@@ -8,6 +8,7 @@ use crate::groups::line_of;
 use crate::groups::nine_kinds;
 use crate::groups::place_in;
 use crate::groups::slot_at;
+use crate::groups::wide;
 use clauses::ClauseSet;
 ghost use mathlib.Core.Path.{_≡_};
 ghost use Prim.Native.Nat.{ℕ, _+_, _*_, _≤_, _<_};
@@ -20,12 +21,6 @@ ghost use Rattle.propagation.specs.Acting.{Weighable, Weighed, Ready, At
 pub struct Work {
     pub listed: usize,
     pub decided: usize,
-}
-
-fn wide(n: u16) -> usize
-    ensures { λ r. ⌜ r ≡ n ⌝ }
-{
-    n as usize
 }
 
 // What a place weighs by its mark.

@@ -4,6 +4,7 @@ use crate::acting::Work;
 use crate::acting::affirm;
 use crate::acting::assign;
 use crate::groups::slot_of;
+use crate::groups::wide;
 use clauses::ClauseSet;
 use clauses::literal;
 use grid::legal::is_digit;
@@ -32,12 +33,6 @@ pub enum Reached {
 pub(crate) enum Looked {
     Clash,
     On(Work),
-}
-
-fn wide(n: u16) -> usize
-    ensures { λ r. ⌜ r ≡ n ⌝ }
-{
-    n as usize
 }
 
 // Looks at the clause that was listed last: a contradiction where all its places are false; where one is left, that place becomes true.

@@ -117,7 +117,7 @@ pub(crate) fn clause_in(slot: usize) -> u16
     }
 }
 
-fn wide(n: u16) -> usize
+pub(crate) fn wide(n: u16) -> usize
     ensures { λ r. ⌜ r ≡ n ⌝ }
 {
     n as usize

@@ -8,7 +8,7 @@ use lib.IntN.{ℤ}
 use Rattle.grid.specs.Refusals.{onAccepted}
 use Rattle.grid.specs.declared.Checked.{Checked}
 use Rattle.grid.specs.declared.Checked.the-variants as check
-use Rattle.inference.proofs.Calls.{accepted-long}
+use Rattle.grid.proofs.Completion.{accepted-long}
 use Rattle.inference.proofs.Orders.{accepted-order}
 use Rattle.inference.specs.Order.{orderCheck}
 use Rattle.grading.specs.Grade.{gradeOf, refused, gradeCall}

@@ -12,7 +12,8 @@ use Rattle.inference.specs.Technique.{techniqueOf}
 use Rattle.inference.specs.Call.{Given, finished, jobOf}
 use Rattle.inference.specs.declared.job.JobAnswer.{JobAnswer}
 use Rattle.inference.specs.declared.technique.Numbered.the-variants.{Known}
-use Rattle.inference.proofs.Calls.{call-short, call-checked, accepted-long}
+use Rattle.grid.proofs.Completion.{accepted-long}
+use Rattle.inference.proofs.Calls.{call-short, call-checked}
 use Rattle.inference.proofs.Orders.{accepted-order}
 use Rattle.inference.proofs.job.job.Statement.{statement}
 use Rattle.inference.proofs.job.job.Tie as tie

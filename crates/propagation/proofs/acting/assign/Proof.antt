@@ -1,11 +1,11 @@
 -- The sums follow kind by kind.
 use mathlib.Core.Path.{_≡_, refl, ap, sym, subst, _∙_}
-use Prim.Native.Nat.{ℕ, _+_, _-_, _≤_, _<_}
+use Prim.Native.Nat.{_-_, _≤_}
 use native.Mathlib.Omega.{arith}
 use borrow.Author.Needs.{needs}
 use lib.ListN.{set}
 use Rattle.closure.proofs.Marks.{decided-bounded}
-use Rattle.propagation.specs.Groups.{kindAt, slotAt, nineKinds}
+use Rattle.propagation.specs.Groups.{kindAt, slotAt}
 use Rattle.propagation.specs.Acting.{Weighable, Weighed}
 use Rattle.propagation.proofs.Slots.{nines-below}
 use Rattle.propagation.proofs.Assigning.{Weighing, weighable, weighing-next, weighing-none, weighing-all}

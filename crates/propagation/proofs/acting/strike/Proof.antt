@@ -2,7 +2,7 @@
 use mathlib.Core.Path.{_≡_, sym, subst}
 use native.Mathlib.Omega.{arith}
 use borrow.Author.Needs.{needs}
-use Rattle.propagation.specs.Acting.{Ready, At, Strikes}
+use Rattle.propagation.specs.Acting.{Ready, Strikes}
 use Rattle.propagation.proofs.Assigning.{ready-but}
 use Rattle.propagation.proofs.Striking.{strikes-already, strikes-new}
 use Rattle.propagation.proofs.acting.strike.Statement.{statement}

@@ -1,21 +1,19 @@
 -- At each cell the marks are the unit closure of the givens before it.
-use mathlib.Core.Path.{_≡_, refl, ap, sym, subst, _∙_}
+use mathlib.Core.Path.{_≡_, sym, subst, _∙_}
 use mathlib.Core.Logic.{⊎-elim}
-use mathlib.Core.Bool.{true, false}
+use mathlib.Core.Bool.{true}
 use mathlib.Core.List.{List, List·Memᴰ}
-use Prim.Native.Nat.{ℕ, suc, _+_, _*_, _-_, _≤_, _<_}
+use Prim.Native.Nat.{ℕ, _+_, _*_, _-_, _≤_, _<_}
 use native.Mathlib.Omega.{arith}
 use borrow.Author.Needs.{needs}
 use lib.Dec.{T}
-use lib.IntN.{pos}
-use lib.ListN.{getD}
 use Rattle.grid.specs.Grid.{byte, isDigit}
 use Rattle.grid.proofs.Completion.{digit-iff}
 use Rattle.clauses.specs.Clauses.{clausesOf}
 use Rattle.clauses.specs.Models.{givens}
 use Rattle.closure.specs.Sets.{IsLeast}
-use Rattle.closure.specs.Closure.{With, UnitClosed}
-use Rattle.closure.specs.Marks.{has, blank}
+use Rattle.closure.specs.Closure.{UnitClosed}
+use Rattle.closure.specs.Marks.{has}
 use Rattle.closure.specs.Propagation.{Closes, clash, closed}
 use Rattle.closure.proofs.Sets.{least-mono}
 use Rattle.closure.proofs.Closure.{contradiction-mono}

@@ -1,5 +1,4 @@
 -- F1 keeps its numbers, and the others begin at 11,745.
-use mathlib.Core.Path.{sym}
 use borrow.Author.Needs.{needs}
 use borrow.Author.Tests.{lt-ltb, le-ltb}
 use Rattle.propagation.specs.Groups.{clauseIn}
