@@ -7,9 +7,9 @@ use lib.IntN.{ℤ}
 use lib.ListN.{length}
 use Rattle.grid.specs.Refusals.{onAccepted}
 use Rattle.grid.specs.declared.Checked.{Checked}
-use Rattle.inference.specs.Order.{orderCheck}
-use Rattle.inference.specs.Technique.{techniqueOf, onKnown}
-use Rattle.inference.specs.declared.technique.Numbered.{Numbered}
+use Rattle.orders.specs.Order.{orderCheck}
+use Rattle.orders.specs.Technique.{techniqueOf, onKnown}
+use Rattle.orders.specs.declared.technique.Numbered.{Numbered}
 use Rattle.batch.specs.Call.{lentCheck, bytesCheck, Done, jobsOf, Given, refused, ran, batchCall}
 use Rattle.batch.specs.Parts.{AllFilled}
 use Rattle.batch.specs.declared.BatchAnswer.the-variants.{Ran}

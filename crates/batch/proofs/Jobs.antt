@@ -13,7 +13,7 @@ use Rattle.clauses.specs.Clauses.{clausesOf}
 use Rattle.clauses.specs.Models.{givens}
 use Rattle.closure.specs.Job.{End, countOf, marksOf, outcomeOf}
 use Rattle.closure.proofs.Ceiling.{count-below}
-use Rattle.inference.specs.declared.technique.Technique.{Technique}
+use Rattle.orders.specs.declared.technique.Technique.{Technique}
 use Rattle.batch.specs.Call.{gridAt, jobEndOf, numbersOf, Done, doneAfter}
 
 part-below : (k i n : ℕ) → i < n → k * i + k ≤ k * n

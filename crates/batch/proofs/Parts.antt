@@ -14,7 +14,7 @@ use Rattle.closure.proofs.Ceiling.{count-below}
 use Rattle.inference.specs.Call.{Given, finished}
 use Rattle.inference.specs.Steps.{endOf}
 use Rattle.inference.specs.declared.job.JobAnswer.{JobAnswer}
-use Rattle.inference.specs.declared.technique.Technique.{Technique}
+use Rattle.orders.specs.declared.technique.Technique.{Technique}
 use Rattle.inference.specs.declared.trial.End.{End}
 use Rattle.batch.specs.Call.{jobEndOf, numbersOf}
 use Rattle.batch.specs.Parts.{Told, Filled}

@@ -10,7 +10,7 @@ use lib.IntN.{ℤ}
 use lib.ListN.{length, take, drop, length-append, length-drop, drop-of-length-le}
 use lib.Seq.{take-append-seam, drop-append-seam, drop-drop}
 use Rattle.closure.specs.Job.{End, countOf, marksOf}
-use Rattle.inference.specs.declared.technique.Technique.{Technique}
+use Rattle.orders.specs.declared.technique.Technique.{Technique}
 use Rattle.batch.specs.Call.{gridAt, jobEndOf, numbersOf, Done, more, doneAfter}
 use Rattle.batch.specs.Parts.{Filled, AllFilled}
 

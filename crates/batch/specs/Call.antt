@@ -12,9 +12,9 @@ use Rattle.grid.specs.declared.Checked.the-variants as check
 use Rattle.clauses.specs.Clauses.{clausesOf}
 use Rattle.clauses.specs.Models.{givens}
 use Rattle.closure.specs.Job.{End, jobEnd, countOf, marksOf, outcomeOf}
-use Rattle.inference.specs.Order.{orderCheck}
-use Rattle.inference.specs.Technique.{techniqueOf, onKnown}
-use Rattle.inference.specs.declared.technique.Technique.{Technique}
+use Rattle.orders.specs.Order.{orderCheck}
+use Rattle.orders.specs.Technique.{techniqueOf, onKnown}
+use Rattle.orders.specs.declared.technique.Technique.{Technique}
 use Rattle.batch.specs.declared.BatchAnswer.{BatchAnswer}
 use Rattle.batch.specs.declared.BatchAnswer.the-variants.{Ran, Refused}
 

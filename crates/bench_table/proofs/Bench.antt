@@ -26,8 +26,8 @@ use Rattle.clauses.proofs.ModelsAreCompletions.{models-are-completions}
 use Rattle.closure.specs.Marks.{blank}
 use Rattle.closure.specs.Job.{End, opened, stopped, jobEnd, outcomeOf, countOf, marksOf}
 use Rattle.closure.proofs.ClauseSets.{well-formed}
-use Rattle.inference.specs.Order.{defaultOrder}
-use Rattle.inference.proofs.Orders.{default-long}
+use Rattle.orders.specs.Order.{defaultOrder}
+use Rattle.orders.proofs.Orders.{default-long}
 use Rattle.bench_table.specs.Bench.{Row, endOf, Expected, Holds, Every, dots, blankRow, blankRows, fullRows, table}
 use Rattle.bench_table.proofs.Computed.{none, _also_, corner-rows, ones-rows, fives-rows, no-nine-rows}
 use Rattle.bench_table.proofs.FullGrid.{full-solved}

@@ -14,7 +14,7 @@ use Rattle.clauses.specs.Models.{givens}
 use Rattle.closure.specs.Marks.{has, put, mark, decided, decidedIn, blank}
 use Rattle.closure.specs.Propagation.{Answer, clash, closed, bind, remaining, unitClosure, join}
 use Rattle.closure.specs.Job.{End, solved, opened, stopped, contradiction, start, jobEnd, outcomeOf, countOf, marksOf}
-use Rattle.inference.specs.Order.{defaultOrder}
+use Rattle.orders.specs.Order.{defaultOrder}
 use Rattle.bench_table.specs.Bench.{Marked, unsaid, deciding, having, zeros, MarksAre, Row, endOf, Expected, Holds, Every}
 use Rattle.bench_table.specs.Bench.{corner, ones, fives, noNine, cornerRows, onesRows, fivesRows, noNineRows}
 use Rattle.bench_table.proofs.QuickSweep.{quickSweeps, quick-sweeps}

@@ -11,7 +11,7 @@ use Rattle.clauses.specs.declared.ClauseSet.{ClauseSet}
 use Rattle.clauses.specs.declared.ClauseSet.the-variants.{Minimal, Extended}
 use Rattle.closure.specs.Marks.{decided, blank}
 use Rattle.closure.specs.Job.{End, jobEnd, outcomeOf, countOf, marksOf}
-use Rattle.inference.specs.Order.{defaultOrder}
+use Rattle.orders.specs.Order.{defaultOrder}
 
 -- what is said of the marks: nothing; how many variables they decide; the byte at a place, counted from 0; or that all are 0
 pub data Marked : Type 0 where

@@ -15,11 +15,11 @@ use Rattle.grid.specs.declared.Checked.{Checked}
 use Rattle.grid.specs.declared.Checked.the-variants as check
 use Rattle.grid.proofs.Counting.{total-same}
 use Rattle.closure.specs.Job.{countOf}
-use Rattle.inference.specs.Order.{orderCheck}
-use Rattle.inference.specs.Technique.{techniqueOf}
-use Rattle.inference.specs.declared.technique.Numbered.{Numbered}
-use Rattle.inference.specs.declared.technique.Numbered.the-variants.{Known, Unknown}
-use Rattle.inference.specs.declared.technique.Technique.{Technique}
+use Rattle.orders.specs.Order.{orderCheck}
+use Rattle.orders.specs.Technique.{techniqueOf}
+use Rattle.orders.specs.declared.technique.Numbered.{Numbered}
+use Rattle.orders.specs.declared.technique.Numbered.the-variants.{Known, Unknown}
+use Rattle.orders.specs.declared.technique.Technique.{Technique}
 use Rattle.batch.specs.Call.{gridsIn, lentCheck, bytesCheck, gridAt, doneAfter, jobsOf, Given, ran, batchCall}
 use Rattle.batch.specs.declared.BatchAnswer.the-variants as answer
 use Rattle.batch.proofs.Calls.{tested}

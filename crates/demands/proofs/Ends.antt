@@ -20,14 +20,14 @@ use Rattle.closure.proofs.Clauses.{NoneTwice}
 use Rattle.closure.proofs.Job.{JobOk, job-ok}
 use Rattle.closure.proofs.Order.{order-covers}
 use Rattle.closure.proofs.ClauseSets.{well-formed}
-use Rattle.inference.specs.Order.{orderCheck}
+use Rattle.orders.specs.Order.{orderCheck}
 use Rattle.inference.specs.Call.{outcomeNumber, Given, finished, jobOf}
 use Rattle.demands.specs.Jobs.{Ran, RulesOf, IsGiven}
-use Rattle.inference.specs.declared.technique.Technique.{Technique}
+use Rattle.orders.specs.declared.technique.Technique.{Technique}
 use Rattle.inference.specs.declared.job.JobAnswer.the-variants.{Finished}
 use Rattle.inference.specs.declared.job.Outcome.{Outcome}
 use Rattle.inference.specs.declared.job.Outcome.the-variants.{Solved, Open, Stopped, Contradiction}
-use Rattle.inference.proofs.Orders.{accepted-order}
+use Rattle.orders.proofs.Orders.{accepted-order}
 
 module _ (o : List ℤ) (e : orderCheck o ≡ Accepted) where
   -- an order that is accepted has no literal twice,

@@ -12,7 +12,7 @@ use Rattle.grid.specs.Refusals.{refusal, onAccepted, gridCheck}
 use Rattle.grid.specs.declared.Refusal.{Refusal}
 use Rattle.grid.specs.declared.Checked.{Checked}
 use Rattle.grid.specs.declared.Checked.the-variants as check
-use Rattle.inference.specs.Order.{orderCheck}
+use Rattle.orders.specs.Order.{orderCheck}
 use Rattle.search.specs.Completions.{completions}
 use Rattle.grading.specs.Grade.{stages, rateFrom, Given, gradeBy, gradeOf, refused, gradeCall}
 use Rattle.demands.specs.Gradings.{Grading, IsGrading}

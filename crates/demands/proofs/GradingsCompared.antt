@@ -15,10 +15,10 @@ use Rattle.grid.specs.declared.Checked.the-variants.{Accepted}
 use Rattle.clauses.specs.declared.ClauseSet.{ClauseSet}
 use Rattle.clauses.specs.declared.ClauseSet.the-variants.{Minimal, Extended}
 use Rattle.closure.specs.Job.{End, solved, opened, stopped, contradiction, outcomeOf}
-use Rattle.inference.specs.Order.{orderCheck}
-use Rattle.inference.specs.Technique.{SetWithin}
+use Rattle.orders.specs.Order.{orderCheck}
+use Rattle.orders.specs.Technique.{SetWithin}
 use Rattle.demands.specs.Jobs.{Ran, IsSolved, IsStopped}
-use Rattle.inference.specs.declared.technique.Technique.{Technique}
+use Rattle.orders.specs.declared.technique.Technique.{Technique}
 use Rattle.inference.specs.declared.job.Outcome.the-variants.{Solved, Stopped}
 use Rattle.demands.proofs.Ends.{outcome-iff}
 use Rattle.demands.proofs.JobCalls.{job-some}

@@ -17,15 +17,15 @@ use Rattle.grid.specs.declared.Checked.the-variants as check
 use Rattle.clauses.specs.Clauses.{clausesOf}
 use Rattle.clauses.specs.Models.{givens}
 use Rattle.closure.specs.Job.{End, solved, opened, stopped, contradiction, jobEnd}
-use Rattle.inference.specs.Order.{orderCheck}
-use Rattle.inference.specs.Technique.{techniqueOf, onKnown}
+use Rattle.orders.specs.Order.{orderCheck}
+use Rattle.orders.specs.Technique.{techniqueOf, onKnown}
 use Rattle.inference.specs.Call.{Given, finished, jobOf, refused, jobCall}
 use Rattle.demands.specs.Jobs.{Ran, IsJob}
 use Rattle.inference.specs.declared.job.JobAnswer.the-variants.{Finished, Refused}
 use Rattle.inference.specs.declared.job.Outcome.{Outcome}
-use Rattle.inference.specs.declared.technique.Numbered.{Numbered}
-use Rattle.inference.specs.declared.technique.Numbered.the-variants.{Known, Unknown}
-use Rattle.inference.specs.declared.technique.Technique.{Technique}
+use Rattle.orders.specs.declared.technique.Numbered.{Numbered}
+use Rattle.orders.specs.declared.technique.Numbered.the-variants.{Known, Unknown}
+use Rattle.orders.specs.declared.technique.Technique.{Technique}
 
 -- a refusal is no outcome
 refused-finished : {f : Refusal} {a : Outcome} {k : ℕ} {m t : List ℕ} → _≡_ {A = Given} (Refused f, m) (Finished a k, t) → ⊥

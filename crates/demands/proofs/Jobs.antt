@@ -27,7 +27,7 @@ use Rattle.closure.proofs.Solved.{truthIn, solved-only, solved-clauses, solved-
 use Rattle.inference.specs.Call.{outcomeNumber}
 use Rattle.demands.specs.Jobs.{Ran, IsStopped, RulesOf, IsGiven, ByClosure, AllDecided, MarksOnly, Answers, Counts}
 use Rattle.inference.specs.declared.job.Outcome.the-variants.{Solved, Stopped, Contradiction}
-use Rattle.inference.specs.declared.technique.Technique.{Technique}
+use Rattle.orders.specs.declared.technique.Technique.{Technique}
 use Rattle.demands.proofs.Ends.{endOf, ran-ended, outcome-iff}
 use Rattle.demands.proofs.MarkBytes.{full-iff, full-mark}
 

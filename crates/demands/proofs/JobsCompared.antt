@@ -18,7 +18,7 @@ use Rattle.closure.proofs.Compare.{marks-carry, contradiction-carries}
 use Rattle.demands.specs.Jobs.{IsContradiction, RulesOf}
 use Rattle.demands.specs.DemandThree.{HasGivens, SameMarks, OfJobs}
 use Rattle.inference.specs.declared.job.Outcome.the-variants.{Stopped, Contradiction}
-use Rattle.inference.proofs.Techniques.{set-within}
+use Rattle.orders.proofs.Techniques.{set-within}
 use Rattle.demands.proofs.Ends.{endOf, ran-ended, outcome-iff}
 use Rattle.demands.proofs.MarkBytes.{marks-same}
 

@@ -25,7 +25,7 @@ use Rattle.clauses.specs.declared.ClauseSet.{ClauseSet}
 use Rattle.clauses.proofs.Members.{givens-iff, given-literal}
 use Rattle.closure.specs.Job.{End, solved, opened, stopped, contradiction, jobEnd, countOf, outcomeOf}
 use Rattle.closure.proofs.Marks.{decided-some}
-use Rattle.inference.specs.Order.{orderCheck, defaultCeiling}
+use Rattle.orders.specs.Order.{orderCheck, defaultCeiling}
 use Rattle.search.specs.Completions.{completions}
 use Rattle.search.proofs.Completions.{completions-in-order}
 use Rattle.grading.specs.Grade.{stages, afterJob, rateFrom, gradeBy, gradeOf, gradeCall}

@@ -5,9 +5,9 @@ use Prim.Native.Nat.{ℕ, _+_, _*_, _-_, _≤_, _<_}
 use lib.IntN.{ℤ}
 use lib.ListN.{length, getD, take, drop}
 use Rattle.grid.specs.Counting.{total}
-use Rattle.inference.specs.Technique.{techniqueOf}
+use Rattle.orders.specs.Technique.{techniqueOf}
 use Rattle.inference.specs.Call.{outcomeNumber}
-use Rattle.inference.specs.declared.technique.Numbered.the-variants.{Known}
+use Rattle.orders.specs.declared.technique.Numbered.the-variants.{Known}
 use Rattle.batch.specs.Call.{gridsIn, gridAt}
 use Rattle.demands.specs.Jobs.{Ran}
 

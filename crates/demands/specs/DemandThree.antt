@@ -6,7 +6,7 @@ use Prim.Native.Nat.{ℕ, _≤_, _<_}
 use lib.Dec.{T}
 use Rattle.grid.specs.Grid.{byte, isDigit}
 use Rattle.grid.specs.Completion.{Legal}
-use Rattle.inference.specs.Technique.{AtLeast}
+use Rattle.orders.specs.Technique.{AtLeast}
 use Rattle.demands.specs.Jobs.{Ran, IsStopped, IsContradiction, markAt}
 use Rattle.demands.specs.Gradings.{Grading}
 

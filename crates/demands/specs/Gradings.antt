@@ -5,7 +5,7 @@ use Prim.Native.Nat.{ℕ}
 use lib.IntN.{ℤ}
 use Rattle.grid.specs.Refusals.{gridCheck}
 use Rattle.grid.specs.declared.Checked.the-variants.{Accepted}
-use Rattle.inference.specs.Order.{orderCheck}
+use Rattle.orders.specs.Order.{orderCheck}
 use Rattle.grading.specs.Grade.{gradeOf}
 use Rattle.grading.specs.declared.GradeAnswer.the-variants.{Graded}
 

@@ -16,14 +16,14 @@ use Rattle.closure.specs.Sets.{LiteralSet, Within, Least}
 use Rattle.closure.specs.Closure.{Rules}
 use Rattle.closure.specs.Closure as closure
 use Rattle.closure.specs.Marks.{has}
-use Rattle.inference.specs.Order.{orderCheck, defaultCeiling}
-use Rattle.inference.specs.Technique.{techniqueOf}
+use Rattle.orders.specs.Order.{orderCheck, defaultCeiling}
+use Rattle.orders.specs.Technique.{techniqueOf}
 use Rattle.inference.specs.Call.{jobOf}
 use Rattle.inference.specs.declared.job.JobAnswer.the-variants.{Finished}
 use Rattle.inference.specs.declared.job.Outcome.{Outcome}
 use Rattle.inference.specs.declared.job.Outcome.the-variants.{Solved, Stopped, Contradiction}
-use Rattle.inference.specs.declared.technique.Numbered.the-variants.{Known}
-use Rattle.inference.specs.declared.technique.Technique.{Technique}
+use Rattle.orders.specs.declared.technique.Numbered.the-variants.{Known}
+use Rattle.orders.specs.declared.technique.Technique.{Technique}
 
 -- A job that is not refused: what it was given, and what it gave back. A job call makes one, and each job of a batch is one.
 pub record Ran : Type 0 where

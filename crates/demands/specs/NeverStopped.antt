@@ -3,7 +3,7 @@ use mathlib.Core.Path.{_≡_}
 use mathlib.Core.List.{List}
 use Prim.Native.Nat.{ℕ, _*_, _≤_}
 use lib.IntN.{ℤ}
-use Rattle.inference.specs.Order.{defaultCeiling}
+use Rattle.orders.specs.Order.{defaultCeiling}
 use Rattle.grading.specs.Grade.{gradeCall}
 use Rattle.grading.specs.declared.GradeAnswer.the-variants.{Graded}
 use Rattle.demands.specs.Gradings.{Grading}

@@ -9,7 +9,7 @@ use lib.IntN.{ℤ}
 use lib.ListN.{length}
 use Rattle.grid.specs.Refusals.{refusal, onAccepted, gridCheck}
 use Rattle.grid.specs.declared.Checked.{Checked}
-use Rattle.inference.specs.Order.{orderCheck}
+use Rattle.orders.specs.Order.{orderCheck}
 use Rattle.grading.specs.Grade.{Given, gradeOf, refused, gradeCall}
 
 module _ (g : List ℕ) (o : List ℤ) (c : ℕ) (b : List ℕ) where

@@ -11,8 +11,8 @@ use Rattle.grid.specs.declared.Refusal.{Refusal}
 use Rattle.clauses.specs.Clauses.{clausesOf}
 use Rattle.clauses.specs.Models.{givens, truthOf}
 use Rattle.closure.specs.Job.{End, solved, opened, stopped, contradiction, jobEnd}
-use Rattle.inference.specs.Order.{orderCheck}
-use Rattle.inference.specs.Technique.{unitMinimal, unitExtended, trialsMinimal, trialsExtended}
+use Rattle.orders.specs.Order.{orderCheck}
+use Rattle.orders.specs.Technique.{unitMinimal, unitExtended, trialsMinimal, trialsExtended}
 use Rattle.search.specs.Completions.{completions}
 use Rattle.search.specs.Search.{zeros}
 use Rattle.grading.specs.declared.Stage.{Stage}

@@ -10,10 +10,10 @@ use lib.ListN.{length}
 use Rattle.grid.specs.Refusals.{refusal, onAccepted, gridCheck}
 use Rattle.grid.specs.declared.Checked.{Checked}
 use Rattle.grid.specs.declared.Checked.the-variants as check
-use Rattle.inference.specs.Order.{orderCheck}
-use Rattle.inference.specs.Technique.{techniqueOf, onKnown}
+use Rattle.orders.specs.Order.{orderCheck}
+use Rattle.orders.specs.Technique.{techniqueOf, onKnown}
 use Rattle.inference.specs.Call.{jobOf, refused, jobCall}
-use Rattle.inference.specs.declared.technique.Numbered.{Numbered}
+use Rattle.orders.specs.declared.technique.Numbered.{Numbered}
 
 -- the call by what its checks say
 module _ (g : List ℕ) (n : ℕ) (o : List ℤ) (c : ℕ) (m : List ℕ) where

@@ -1,7 +1,4 @@
 // The job call: the unit closure of a grid's givens, then trials, after the checks of what is lent.
-use crate::order::check_order;
-use crate::technique::Numbered;
-use crate::technique::Technique;
 use crate::trial::End;
 use crate::trial::Ended;
 use crate::trial::State;
@@ -9,6 +6,9 @@ use crate::trial::passes;
 use grid::Checked;
 use grid::Refusal;
 use grid::check_grid;
+use orders::order::check_order;
+use orders::technique::Numbered;
+use orders::technique::Technique;
 use propagation::close::Reached;
 use propagation::close::close_givens;
 ghost use mathlib.Core.Path.{_≡_};

@@ -8,7 +8,7 @@ use lib.IntN.{ℤ}
 use lib.ListN.{length, take, drop}
 use Rattle.grid.specs.Grid.{byte}
 use Rattle.clauses.specs.Clauses.{range}
-use Rattle.inference.specs.Order.{defaultOrder, defaultCeiling}
+use Rattle.orders.specs.Order.{defaultOrder, defaultCeiling}
 use Rattle.jobfile.specs.Number.{signedOf, wordAt, doubleAt}
 use Rattle.jobfile.specs.Pieces.{bodyLength}
 use Rattle.jobfile.specs.declared.piece.Bodies.{Bodies}

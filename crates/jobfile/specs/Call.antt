@@ -9,8 +9,8 @@ use Rattle.grid.specs.Refusals.{refusal, onAccepted, gridCheck}
 use Rattle.grid.specs.declared.Refusal.{Refusal}
 use Rattle.grid.specs.declared.Checked.{Checked}
 use Rattle.grid.specs.declared.Checked.the-variants as check
-use Rattle.inference.specs.Order.{orderCheck}
-use Rattle.inference.specs.Technique.{techniqueOf, onKnown}
+use Rattle.orders.specs.Order.{orderCheck}
+use Rattle.orders.specs.Technique.{techniqueOf, onKnown}
 use Rattle.jobfile.specs.Pieces.{piecesOf}
 use Rattle.jobfile.specs.Bodies.{gridIn, techniqueIn, ceilingIn, orderIn}
 use Rattle.jobfile.specs.declared.ReadAnswer.{ReadAnswer}

@@ -8,7 +8,7 @@ use Prim.Native.Nat.{ℕ, _+_, _<_}
 use native.Mathlib.Omega.{arith}
 use lib.ListN.{getD}
 use Rattle.grid.specs.declared.Refusal.{Refusal}
-use Rattle.inference.specs.Order.{defaultOrder, defaultCeiling}
+use Rattle.orders.specs.Order.{defaultOrder, defaultCeiling}
 use Rattle.search.specs.Search.{zeros}
 use Rattle.grading.specs.Grade.{Given, gradeCall}
 use Rattle.grading.specs.declared.GradeAnswer.the-variants.{Graded, Refused}

@@ -5,7 +5,7 @@ use mathlib.Core.List.{List, [], _∷_, _++_}
 use Prim.Native.Nat.{ℕ, zero, suc, _+_, _/_, _%_}
 use lib.Dec.{ltb}
 use lib.ListN.{set}
-use Rattle.inference.specs.Order.{defaultOrder, defaultCeiling}
+use Rattle.orders.specs.Order.{defaultOrder, defaultCeiling}
 use Rattle.search.specs.Search.{zeros}
 use Rattle.grading.specs.Grade.{gradeCall}
 use Rattle.grading.specs.declared.GradeAnswer.{GradeAnswer}

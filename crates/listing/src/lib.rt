@@ -1,8 +1,8 @@
 // The lines of a listing: a line of input is graded under the defaults, and its output line is written into a lent buffer.
 use grading::GradeAnswer;
 use grading::grade;
-use inference::order::DEFAULT_CEILING;
-use inference::order::default_order;
+use orders::order::DEFAULT_CEILING;
+use orders::order::default_order;
 ghost use mathlib.Core.Path.{_≡_};
 ghost use mathlib.Core.List.{_∷_, []};
 ghost use Prim.Native.Nat.{_+_, _≤_, _<_};

@@ -8,11 +8,11 @@ use lib.IntN.{ℤ}
 use lib.ListN.{length}
 use Rattle.grid.specs.declared.Checked.{Checked}
 use Rattle.grid.specs.declared.Checked.the-variants as check
-use Rattle.inference.specs.Order.{orderCheck}
-use Rattle.inference.specs.Technique.{techniqueOf}
-use Rattle.inference.specs.declared.technique.Numbered.{Numbered}
-use Rattle.inference.specs.declared.technique.Numbered.the-variants.{Known, Unknown}
-use Rattle.inference.proofs.Orders.{accepted-order}
+use Rattle.orders.specs.Order.{orderCheck}
+use Rattle.orders.specs.Technique.{techniqueOf}
+use Rattle.orders.specs.declared.technique.Numbered.{Numbered}
+use Rattle.orders.specs.declared.technique.Numbered.the-variants.{Known, Unknown}
+use Rattle.orders.proofs.Orders.{accepted-order}
 use Rattle.batch.specs.Call.{bytesCheck, batchCall}
 use Rattle.batch.proofs.Calls.{tested, call-checked, ran-filled}
 use Rattle.batch.proofs.Checks.{lent-accepted}

@@ -9,8 +9,8 @@ use Rattle.grid.specs.Refusals.{onAccepted}
 use Rattle.grid.specs.declared.Checked.{Checked}
 use Rattle.grid.specs.declared.Checked.the-variants as check
 use Rattle.grid.proofs.Completion.{accepted-long}
-use Rattle.inference.proofs.Orders.{accepted-order}
-use Rattle.inference.specs.Order.{orderCheck}
+use Rattle.orders.proofs.Orders.{accepted-order}
+use Rattle.orders.specs.Order.{orderCheck}
 use Rattle.grading.specs.Grade.{gradeOf, refused, gradeCall}
 use Rattle.grading.proofs.GradeCalls.{call-short, call-checked}
 use Rattle.grading.proofs.grade.Statement.{statement}

@@ -7,9 +7,9 @@ use lib.IntN.{ℤ}
 use Rattle.grid.specs.Refusals.{onAccepted, gridCheck}
 use Rattle.grid.specs.declared.Checked.{Checked}
 use Rattle.grid.specs.declared.Checked.the-variants.{Accepted, Refused}
-use Rattle.inference.specs.Order.{orderCheck}
-use Rattle.inference.specs.Technique.{techniqueOf, onKnown}
-use Rattle.inference.specs.declared.technique.Numbered.{Numbered}
+use Rattle.orders.specs.Order.{orderCheck}
+use Rattle.orders.specs.Technique.{techniqueOf, onKnown}
+use Rattle.orders.specs.declared.technique.Numbered.{Numbered}
 use Rattle.jobfile.specs.Call.{contentsCheck}
 use Rattle.jobfile.proofs.check_contents.Statement.{statement}
 use Rattle.jobfile.proofs.check_contents.Tie as tie

@@ -1,7 +1,7 @@
 -- The line is graded, and its answer shown.
 use mathlib.Core.Path.{_≡_, ap, _∙_}
 use lib.ListN.{length}
-use Rattle.inference.specs.Order.{defaultOrder, defaultCeiling}
+use Rattle.orders.specs.Order.{defaultOrder, defaultCeiling}
 use borrow.Author.Needs.{needs}
 use Rattle.search.specs.Search.{zeros}
 use Rattle.grading.specs.Grade.{gradeCall}

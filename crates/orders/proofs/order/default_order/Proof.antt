@@ -9,11 +9,11 @@ use lib.ListN.{length, set, length-set}
 use lib.Seq.{ext-getD, getD-set-same, getD-set-other}
 use Rattle.clauses.specs.Literal.{Literal}
 use Rattle.clauses.proofs.Signed.{returned}
-use Rattle.inference.specs.Order.{defaultOrder}
-use Rattle.inference.specs.Place.{tablePlace}
-use Rattle.inference.proofs.Orders.{entry, place-below, default-long, default-at}
-use Rattle.inference.proofs.order.default_order.Statement.{statement}
-use Rattle.inference.proofs.order.default_order.Tie as tie
+use Rattle.orders.specs.Order.{defaultOrder}
+use Rattle.orders.specs.Place.{tablePlace}
+use Rattle.orders.proofs.Orders.{entry, place-below, default-long, default-at}
+use Rattle.orders.proofs.order.default_order.Statement.{statement}
+use Rattle.orders.proofs.order.default_order.Tie as tie
 
 -- the first n entries are the default order's
 record Begun (n : ℕ) (o : List ℤ) : Type 0 where

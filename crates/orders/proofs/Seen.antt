@@ -14,9 +14,9 @@ use lib.Seq.{getD-set-same, getD-set-other}
 use Rattle.grid.specs.Counting.{tick}
 use Rattle.grid.proofs.Table.{true-is, false-is}
 use Rattle.clauses.specs.Literal.{Literal}
-use Rattle.inference.specs.Order.{same, repeats}
-use Rattle.inference.specs.Place.{tablePlace}
-use Rattle.inference.proofs.Orders.{entry, among, among-none, among-more, same-iff, place-below, place-once}
+use Rattle.orders.specs.Order.{same, repeats}
+use Rattle.orders.specs.Place.{tablePlace}
+use Rattle.orders.proofs.Orders.{entry, among, among-none, among-more, same-iff, place-below, place-once}
 
 tick-zero : (b : Bool) → tick b ≡ 0 → b ≡ false
 tick-zero true e = absurd (omega arith)

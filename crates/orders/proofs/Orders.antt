@@ -21,8 +21,8 @@ use Rattle.grid.proofs.Completion.{eq-iff, not-accepted}
 use Rattle.clauses.specs.Clauses.{range, over}
 use Rattle.clauses.specs.Literal.{Literal, isLiteral}
 use Rattle.clauses.proofs.Signed.{literal-iff}
-use Rattle.inference.specs.Order.{defaultOrder, firstNoLiteral, same, repeats, firstRepeat, orderCheck}
-use Rattle.inference.specs.Place.{tablePlace}
+use Rattle.orders.specs.Order.{defaultOrder, firstNoLiteral, same, repeats, firstRepeat, orderCheck}
+use Rattle.orders.specs.Place.{tablePlace}
 
 -- the entry at place i, 0 past the end
 abbrev pub entry : List ℤ → ℕ → ℤ

@@ -16,9 +16,9 @@ use Rattle.clauses.specs.declared.ClauseSet.{ClauseSet}
 use Rattle.clauses.specs.declared.ClauseSet.the-variants.{Minimal, Extended}
 use Rattle.clauses.specs.declared.Shape.{Shape}
 use Rattle.clauses.proofs.Members.{member-iff}
-use Rattle.inference.specs.Technique.{SetWithin, AtLeast, techniqueOf, unitMinimal, unitExtended, trialsMinimal, trialsExtended}
-use Rattle.inference.specs.declared.technique.Technique.{Technique}
-use Rattle.inference.specs.declared.technique.Numbered.the-variants.{Known, Unknown}
+use Rattle.orders.specs.Technique.{SetWithin, AtLeast, techniqueOf, unitMinimal, unitExtended, trialsMinimal, trialsExtended}
+use Rattle.orders.specs.declared.technique.Technique.{Technique}
+use Rattle.orders.specs.declared.technique.Numbered.the-variants.{Known, Unknown}
 
 -- what holds of the four techniques under their numbers holds of every technique that has a number
 module _ (P : ℕ → Technique → Type 0) (one : P 1 unitMinimal) (two : P 2 unitExtended) (three : P 3 trialsMinimal) (four : P 4 trialsExtended) where

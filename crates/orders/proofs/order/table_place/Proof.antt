@@ -12,9 +12,9 @@ use mir.Val.{toZ, ofZ}
 use Rattle.grid.specs.Counting.{tick}
 use Rattle.clauses.specs.Literal.{markIndex}
 use Rattle.clauses.proofs.Signed.{read, test-of, mark-below}
-use Rattle.inference.specs.Place.{tablePlace}
-use Rattle.inference.proofs.order.table_place.Statement.{statement}
-use Rattle.inference.proofs.order.table_place.Tie as tie
+use Rattle.orders.specs.Place.{tablePlace}
+use Rattle.orders.proofs.order.table_place.Statement.{statement}
+use Rattle.orders.proofs.order.table_place.Tie as tie
 
 by-mark : (l : ℤ) → tablePlace l ≡ 2 * markIndex l + tick (ltZ l (pos 0))
 by-mark (pos v) = rw (le-ltb v 0 (omega arith)) (omega arith)

@@ -2,10 +2,10 @@
 use mathlib.Core.Path.{ap, sym, _∙_}
 use borrow.Author.Needs.{needs}
 use borrow.Author.Tests.{ne-eqb}
-use Rattle.inference.specs.Technique.{techniqueOf}
-use Rattle.inference.specs.declared.technique.Numbered.the-variants.{Known}
-use Rattle.inference.proofs.technique.Technique.numbered.Statement.{statement}
-use Rattle.inference.proofs.technique.Technique.numbered.Tie as tie
+use Rattle.orders.specs.Technique.{techniqueOf}
+use Rattle.orders.specs.declared.technique.Numbered.the-variants.{Known}
+use Rattle.orders.proofs.technique.Technique.numbered.Statement.{statement}
+use Rattle.orders.proofs.technique.Technique.numbered.Tie as tie
 
 returns : tie.Need-returns
 unfolding techniqueOf

@@ -17,12 +17,12 @@ use Rattle.grid.proofs.First.{Scanned, first-here, first-later, first-none}
 use Rattle.grid.proofs.Least.{Scan, scan-none, scan-fails, scan-first, scan-later, scan-all, least-is}
 use Rattle.clauses.specs.Literal.{Literal, isLiteral}
 use Rattle.clauses.proofs.Signed.{read, literal-iff}
-use Rattle.inference.specs.Order.{firstNoLiteral, repeats, firstRepeat, orderCheck}
-use Rattle.inference.specs.Place.{tablePlace}
-use Rattle.inference.proofs.Orders.{entry, place-below}
-use Rattle.inference.proofs.Seen.{Seen, seen-none, entry-read}
-use Rattle.inference.proofs.order.check_order.Statement.{statement}
-use Rattle.inference.proofs.order.check_order.Tie as tie
+use Rattle.orders.specs.Order.{firstNoLiteral, repeats, firstRepeat, orderCheck}
+use Rattle.orders.specs.Place.{tablePlace}
+use Rattle.orders.proofs.Orders.{entry, place-below}
+use Rattle.orders.proofs.Seen.{Seen, seen-none, entry-read}
+use Rattle.orders.proofs.order.check_order.Statement.{statement}
+use Rattle.orders.proofs.order.check_order.Tie as tie
 
 abbrev noLiteral : ℤ → Bool
 noLiteral l = not (isLiteral l)

@@ -6,8 +6,8 @@ ghost use mathlib.Core.Path.{_≡_};
 ghost use Rattle.grid.specs.Refusals.{refusal};
 ghost use Rattle.grid.specs.declared.Checked.the-variants.{Refused};
 ghost use Rattle.clauses.specs.Literal.{Literal};
-ghost use Rattle.inference.specs.Order.{defaultOrder, orderCheck};
-ghost use Rattle.inference.specs.Place.{tablePlace};
+ghost use Rattle.orders.specs.Order.{defaultOrder, orderCheck};
+ghost use Rattle.orders.specs.Place.{tablePlace};
 
 // How many literals there are.
 pub const ENTRIES: usize = 1458;

@@ -6,9 +6,9 @@ use Rattle.grid.specs.Refusals.{refusal}
 use Rattle.grid.specs.declared.Refusal.{Refusal}
 use Rattle.clauses.specs.declared.ClauseSet.{ClauseSet}
 use Rattle.clauses.specs.declared.ClauseSet.the-variants.{Minimal, Extended}
-use Rattle.inference.specs.declared.technique.Technique.{Technique}
-use Rattle.inference.specs.declared.technique.Numbered.{Numbered}
-use Rattle.inference.specs.declared.technique.Numbered.the-variants.{Known, Unknown}
+use Rattle.orders.specs.declared.technique.Technique.{Technique}
+use Rattle.orders.specs.declared.technique.Numbered.{Numbered}
+use Rattle.orders.specs.declared.technique.Numbered.the-variants.{Known, Unknown}
 
 -- 1: unit on set 1
 abbrev pub unitMinimal : Technique

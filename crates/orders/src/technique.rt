@@ -1,7 +1,7 @@
 // Techniques: document 01's four, each a clause set with or without trials.
 use clauses::ClauseSet;
 ghost use mathlib.Core.Path.{_≡_};
-ghost use Rattle.inference.specs.Technique.{unitMinimal, unitExtended, trialsMinimal, trialsExtended, techniqueOf};
+ghost use Rattle.orders.specs.Technique.{unitMinimal, unitExtended, trialsMinimal, trialsExtended, techniqueOf};
 
 // A technique: its clause set, and whether it makes trials.
 pub struct Technique {

@@ -1,0 +1,3 @@
+pub mod Techniques
+pub mod Orders
+pub mod Seen

@@ -1,0 +1,3 @@
+pub mod Technique
+pub mod Order
+pub mod Place
