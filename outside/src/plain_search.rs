@@ -3,8 +3,8 @@
 //! takes the unit closure over the extended set, and branches on the first open cell with its digits
 //! rising, so completions come in byte order. A branch is entered unless a test finds that it leaves
 //! nothing. The test first dives for a full grid. Else it tries each place, those where it has failed
-//! before first, notes what the trial decides, and branches on the group that promises the smallest
-//! tree; it starts again where that is too large. A full grid that it comes upon is kept as a guess,
+//! before first, as long as that decides a place more, notes what the trial decides, and branches on
+//! the group that promises the smallest tree; it starts again where that is too large. A full grid that it comes upon is kept as a guess,
 //! and a branch that the guess agrees with needs no test.
 
 use crate::cases::Grid;
@@ -146,9 +146,19 @@ impl Search {
     }
 
     /// A trial of each place, first of those at which a test has failed before: where it fails, the
-    /// place becomes false, else its weight is noted. False at a place that can be neither.
+    /// place becomes false, else its weight is noted. This is repeated until it decides nothing more.
+    /// False at a place that can be neither.
     fn weigh(&mut self, state: &mut State, weights: &mut [u32; VARIABLES]) -> bool {
-        self.weigh_from(state, weights, 1) && self.weigh_from(state, weights, 0)
+        while state.decided < VARIABLES {
+            let before = state.decided;
+            if !self.weigh_from(state, weights, 1) || !self.weigh_from(state, weights, 0) {
+                return false;
+            }
+            if state.decided == before {
+                break;
+            }
+        }
+        true
     }
 
     /// A trial of each place with at least so many failures.

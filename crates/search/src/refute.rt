@@ -227,7 +227,7 @@ fn weigh_from(
 }
 
 // A trial of each place: first of those at which the test has failed before.
-fn weigh(
+fn weigh_once(
     marks: &mut [u8; 729],
     sums: &mut [u16; 324],
     list: &mut [u16; 2916],
@@ -243,6 +243,36 @@ fn weigh(
         Reached::Clash => Reached::Clash,
         Reached::Decided(known) => weigh_from(marks, sums, list, known, weights, failures, 0),
     }
+}
+
+// Such walks of trials, until one decides nothing more.
+fn weigh(
+    marks: &mut [u8; 729],
+    sums: &mut [u16; 324],
+    list: &mut [u16; 2916],
+    decided: usize,
+    weights: &mut [u32; 729],
+    failures: &mut [u32; 729],
+) -> Reached
+    requires { ⌜ StateOk Extended (now marks) (now sums) decided ⌝ }
+    ensures { λ r. ⌜ WeighedOk (now (marks .entry)) (now (marks .exit)) (now (sums .exit)) r ⌝ }
+{
+    let mut known = decided;
+    while known < 729 {
+        let weighed = weigh_once(marks, sums, list, known, weights, failures);
+        match weighed {
+            Reached::Clash => {
+                return Reached::Clash;
+            }
+            Reached::Decided(more) => {
+                if more == known {
+                    return Reached::Decided(more);
+                }
+                known = more;
+            }
+        }
+    }
+    Reached::Decided(known)
 }
 
 // What an attempt to refute marks comes to: they leave nothing, with what is left of the nodes allowed; they have become those of a full
