@@ -410,38 +410,40 @@ fn refute_within(
                 if marks[p] == 1 {
                     return Tried::Spent;
                 }
-                let mut next = *marks;
-                let mut next_sums = *sums;
-                let assumed = close_true(
-                    &mut next,
-                    &mut next_sums,
-                    list,
-                    known,
-                    ClauseSet::Extended,
-                    p,
-                );
-                match assumed {
-                    Reached::Clash => {}
-                    Reached::Decided(more) => {
-                        let tried = refute_within(
-                            &mut next,
-                            &mut next_sums,
-                            list,
-                            more,
-                            failures,
-                            rest,
-                            plain,
-                        );
-                        match tried {
-                            Tried::Refuted(n) => {
-                                rest = n;
-                            }
-                            Tried::Full => {
-                                *marks = next;
-                                return Tried::Full;
-                            }
-                            Tried::Spent => {
-                                return Tried::Spent;
+                if marks[p] != 2 {
+                    let mut next = *marks;
+                    let mut next_sums = *sums;
+                    let assumed = close_true(
+                        &mut next,
+                        &mut next_sums,
+                        list,
+                        known,
+                        ClauseSet::Extended,
+                        p,
+                    );
+                    match assumed {
+                        Reached::Clash => {}
+                        Reached::Decided(more) => {
+                            let tried = refute_within(
+                                &mut next,
+                                &mut next_sums,
+                                list,
+                                more,
+                                failures,
+                                rest,
+                                plain,
+                            );
+                            match tried {
+                                Tried::Refuted(n) => {
+                                    rest = n;
+                                }
+                                Tried::Full => {
+                                    *marks = next;
+                                    return Tried::Full;
+                                }
+                                Tried::Spent => {
+                                    return Tried::Spent;
+                                }
                             }
                         }
                     }
