@@ -2,10 +2,12 @@
 //! the proved calls beside them, and `hunt` looks for grids that cost the search most. The search
 //! takes the unit closure over the extended set, and branches on the first open cell with its digits
 //! rising, so completions come in byte order. A branch is entered unless a test finds that it leaves
-//! nothing. The test first dives for a full grid. Else it tries each place, those where it has failed
-//! before first, notes what the trial decides, and branches on the group that promises the smallest
-//! tree; it starts again where that is too large. A full grid that it comes upon is kept as a guess,
-//! and a branch that the guess agrees with needs no test.
+//! nothing. The test first makes a plain attempt, a small tree that branches on the cell with the
+//! fewest digits left. Where that is not enough, each node of an attempt dives for a full grid; else
+//! it tries each place, those where a test has failed before first, as long as that decides a place
+//! more, notes what the trial decides, and branches on the group that promises the smallest tree. It
+//! starts again where that is too large. A full grid that it comes upon is kept as a guess, and a
+//! branch that the guess agrees with needs no test.
 
 use crate::cases::Grid;
 use crate::grid::{self, CELLS, VARIABLES};
@@ -31,6 +33,19 @@ pub struct Search {
 
 /// How many groups there are: the cells, then each house for each digit.
 const GROUPS: usize = 324;
+
+/// The nodes of the plain attempt.
+const PLAIN: usize = 160;
+
+/// What is found of a state before a branch.
+enum Looked {
+    /// It leaves nothing.
+    Nothing,
+    /// It leaves a full grid, which is the guess.
+    Full,
+    /// The group to branch on.
+    Branch(usize),
+}
 
 /// What an attempt to refute a state comes to.
 enum Attempt {
@@ -88,14 +103,15 @@ impl Search {
         }
     }
 
-    /// Whether a state leaves nothing; else the guess is a full grid that it leaves. Each attempt has
-    /// a third more nodes than the one before.
+    /// Whether a state leaves nothing; else the guess is a full grid that it leaves. After the plain
+    /// attempt, each has a third more nodes than the one before.
     fn refuted(&mut self, state: &State) -> bool {
-        let mut nodes = 12;
+        let (mut nodes, mut plain) = (PLAIN, true);
         while self.closures < self.most_closures {
-            match self.attempt(*state, nodes) {
+            match self.attempt(*state, nodes, plain) {
                 Attempt::Refuted(_) => return true,
                 Attempt::Full => return false,
+                Attempt::Spent if plain => (nodes, plain) = (12, false),
                 Attempt::Spent => nodes += nodes / 3,
             }
         }
@@ -103,33 +119,49 @@ impl Search {
     }
 
     /// An attempt to refute a state with so many nodes.
-    fn attempt(&mut self, mut state: State, nodes: usize) -> Attempt {
+    fn attempt(&mut self, mut state: State, nodes: usize, plain: bool) -> Attempt {
         if nodes == 0 {
             return Attempt::Spent;
         }
         self.nodes += 1;
         let mut nodes = nodes - 1;
-        if self.dive(state) {
-            return Attempt::Full;
-        }
-        let mut weights = [0; VARIABLES];
-        if !self.weigh(&mut state, &mut weights) {
-            return Attempt::Refuted(nodes);
-        }
-        let Some(group) = lightest(&state, &weights, &self.failures) else {
-            self.guess = state.marks;
-            return Attempt::Full;
+        let group = match self.look(&mut state, plain) {
+            Looked::Nothing => return Attempt::Refuted(nodes),
+            Looked::Full => return Attempt::Full,
+            Looked::Branch(group) => group,
         };
         for place in places(group).filter(|&place| state.marks[place] == 0) {
             let mut next = state;
             if self.join(&mut next, place as i16 + 1) {
-                match self.attempt(next, nodes) {
+                match self.attempt(next, nodes, plain) {
                     Attempt::Refuted(left) => nodes = left,
                     other => return other,
                 }
             }
         }
         Attempt::Refuted(nodes)
+    }
+
+    /// What an attempt does before a branch: a plain one only looks for the cell with the fewest
+    /// digits left.
+    fn look(&mut self, state: &mut State, plain: bool) -> Looked {
+        let group = if plain {
+            narrowest(state)
+        } else {
+            if self.dive(*state) {
+                return Looked::Full;
+            }
+            let mut weights = [0; VARIABLES];
+            if !self.weigh(state, &mut weights) {
+                return Looked::Nothing;
+            }
+            lightest(state, &weights, &self.failures)
+        };
+        if let Some(group) = group {
+            return Looked::Branch(group);
+        }
+        self.guess = state.marks;
+        Looked::Full
     }
 
     /// A full grid by the first digit left in each open cell, the cell with the fewest left first;
@@ -146,9 +178,19 @@ impl Search {
     }
 
     /// A trial of each place, first of those at which a test has failed before: where it fails, the
-    /// place becomes false, else its weight is noted. False at a place that can be neither.
+    /// place becomes false, else its weight is noted. This is repeated until it decides nothing more.
+    /// False at a place that can be neither.
     fn weigh(&mut self, state: &mut State, weights: &mut [u32; VARIABLES]) -> bool {
-        self.weigh_from(state, weights, 1) && self.weigh_from(state, weights, 0)
+        while state.decided < VARIABLES {
+            let before = state.decided;
+            if !self.weigh_from(state, weights, 1) || !self.weigh_from(state, weights, 0) {
+                return false;
+            }
+            if state.decided == before {
+                break;
+            }
+        }
+        true
     }
 
     /// A trial of each place with at least so many failures.

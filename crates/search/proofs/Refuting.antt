@@ -7,7 +7,7 @@ use mathlib.Core.Bool.{true, false, not}
 use mathlib.Core.List.{List, [], List·Memᴰ, List·Memᴰ·not-nil}
 use Prim.Native.Nat.{ℕ, suc, _<_}
 use native.Mathlib.Omega.{arith}
-use lib.Dec.{T, not-T}
+use lib.Dec.{T, T-not, not-T}
 use lib.IntN.{pos, negsuc}
 use lib.ListN.{getD}
 use Rattle.grid.proofs.Counting.{tally-find}
@@ -26,7 +26,7 @@ use Rattle.closure.proofs.Marks.{decided-rises, decided-grows}
 use Rattle.propagation.specs.Steps.{StateOk, ClosesTo}
 use Rattle.propagation.specs.declared.close.Reached.{Reached}
 use Rattle.propagation.specs.declared.close.Reached.the-variants.{Clash, Decided}
-use Rattle.propagation.proofs.Sums.{byte-true}
+use Rattle.propagation.proofs.Sums.{byte-true, false-byte}
 use Rattle.search.specs.Search.{left, Weighs, WeighedOk}
 use Rattle.search.proofs.ByteOrder.{in-order-same, in-order-none}
 use Rattle.search.proofs.Left.{Fits, Of, model, with-fits, clash-fits, closed-fits, left-in-order}
@@ -36,9 +36,12 @@ abbrev pub Refuted : List ℕ → ℕ → Type 0
 Refuted m p = (b : List ℕ) → Fits (Of m) b → T (truthOf b (suc p)) → ⊥
 
 module _ (m : List ℕ) (p : ℕ) where
-  -- a place is refuted where it makes a contradiction, or where the closure with it leaves nothing
+  -- a place is refuted where it is false, where it makes a contradiction, or where the closure with it leaves nothing
   pub clash-refutes : Contradiction (Least (UnitClosed (clausesOf Extended)) (With (has m) (pos (suc p)))) → Refuted m p
   clash-refutes k b f y = clash-fits (With (has m) (pos (suc p))) k b (with-fits m (pos (suc p)) b .1 (f, y))
+
+  pub false-refutes : getD m p 0 ≡ 2 → Refuted m p
+  false-refutes e b f = T-not (truthOf b (suc p)) (f .keeps (negsuc p) (false-byte m p e))
 
   pub none-refutes : {t a : List ℕ} {d : ℕ} → ClosesTo Extended (With (has m) (pos (suc p))) t a (Decided d) → left t ≡ [] → Refuted m p
   none-refutes {t} s e b f y =

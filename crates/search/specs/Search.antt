@@ -2,7 +2,7 @@
 use mathlib.Core.Path.{_≡_}
 use mathlib.Core.Bool.{Bool, cond, not}
 use mathlib.Core.List.{List, []}
-use Prim.Native.Nat.{ℕ, suc, _+_, _*_, _≤_, min}
+use Prim.Native.Nat.{ℕ, suc, _+_, _*_, _≤_, _<_, min}
 use lib.Dec.{eqb}
 use lib.IntN.{pos}
 use lib.ListN.{length, getD, replicate}
@@ -15,6 +15,8 @@ use Rattle.propagation.specs.declared.close.Reached.{Reached}
 use Rattle.propagation.specs.declared.close.Reached.the-variants.{Clash, Decided}
 use Rattle.search.specs.Completions.{those, completions}
 use Rattle.search.specs.declared.find.Found.{Found}
+use Rattle.search.specs.declared.refute.Looked.{Looked}
+use Rattle.search.specs.declared.refute.Looked.the-variants.{Nothing, Branch}
 use Rattle.search.specs.declared.refute.Tried.{Tried}
 use Rattle.search.specs.declared.refute.Tried.the-variants.{Refuted, Full, Spent}
 
@@ -68,6 +70,12 @@ pub record Weighs (m m' a' : List ℕ) (d' : ℕ) : Type 0 where
 abbrev pub WeighedOk : List ℕ → List ℕ → List ℕ → Reached → Type 0
 WeighedOk m m' a' Clash = left m ≡ []
 WeighedOk m m' a' (Decided d) = Weighs m m' a' d
+
+-- what a look at marks before a branch promises: where it says so, they leave nothing; where it names a group, the marks are such marks
+abbrev pub LookedOk : List ℕ → List ℕ → List ℕ → Looked → Type 0
+LookedOk m m' a' Nothing = left m ≡ []
+LookedOk m m' a' Looked.Full = Unit {0}
+LookedOk m m' a' (Branch d i) = Weighs m m' a' d × (i < 324)
 
 -- what an attempt to refute marks promises: where it does, they leave nothing
 abbrev pub TriedOk : List ℕ → Tried → Type 0

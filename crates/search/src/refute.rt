@@ -1,7 +1,8 @@
 // A test whether marks leave no legal full grid. It is a search of its own, which needs one full grid and not the smallest, so that it may
-// branch where the tree looks smallest: on any group of nine places of which a full grid makes one true. First it dives for a full grid; then
-// each place is tried, and what the trial decides tells how large the tree below it may be. All that is promised is that marks which are
-// refuted leave nothing. Marks go with the sums of their clauses; the list is lent to the closures for their work alone.
+// branch where the tree looks smallest: on any group of nine places of which a full grid makes one true. A plain attempt, on the cell with the
+// fewest digits left, is enough for most marks. Else each node first dives for a full grid; then each place is tried, and what the trial decides
+// tells how large the tree below it may be. All that is promised is that marks which are refuted leave nothing. Marks go with the sums of their
+// clauses; the list is lent to the closures for their work alone.
 use clauses::ClauseSet;
 use clauses::Group;
 use clauses::decode::place;
@@ -16,7 +17,7 @@ ghost use Prim.Native.Nat.{_<_, _≤_};
 ghost use Rattle.clauses.specs.Shape.{IsGroup};
 ghost use Rattle.clauses.specs.declared.ClauseSet.the-variants.{Extended};
 ghost use Rattle.propagation.specs.Steps.{StateOk};
-ghost use Rattle.search.specs.Search.{left, WeighedOk, TriedOk};
+ghost use Rattle.search.specs.Search.{left, WeighedOk, LookedOk, TriedOk};
 
 // How many groups there are: the cells, then each house for each digit.
 const GROUPS: usize = 324;
@@ -64,21 +65,57 @@ fn load(marks: &[u8; 729], weights: &[u32; 729], failures: &[u32; 729], group: G
     16777216 * sum / (failed + 9)
 }
 
-// The number of the group, of the first so many, that weighs least, or their number where each has a true place.
-fn lightest(marks: &[u8; 729], weights: &[u32; 729], failures: &[u32; 729], groups: usize) -> usize
-    requires { ⌜ groups ≤ 324 ⌝ }
-    ensures { λ r. ⌜ r ≤ groups ⌝ }
+// The number of the group that weighs least, or the number of groups where each has a true place.
+fn lightest(marks: &[u8; 729], weights: &[u32; 729], failures: &[u32; 729]) -> usize
+    ensures { λ r. ⌜ r ≤ 324 ⌝ }
 {
     let mut least = HEAVIEST;
-    let mut at = groups;
+    let mut at = GROUPS;
     let mut i = 0;
-    while i < groups {
+    while i < GROUPS {
         let here = load(marks, weights, failures, group_at(i));
         if here < least {
             least = here;
             at = i;
         }
         i += 1;
+    }
+    at
+}
+
+// How many digits are left in an open cell, or 10 where none is undecided.
+fn digits_left(marks: &[u8; 729], cell: usize) -> usize
+    requires { ⌜ cell < 81 ⌝ }
+{
+    let mut open = 0;
+    let mut k = 0;
+    while k < 9 {
+        if marks[9 * cell + k] == 0 {
+            open += 1;
+        }
+        k += 1;
+    }
+    if open == 0 { 10 } else { open }
+}
+
+// The first open cell with the fewest digits left, or 81 where none is open. Closed marks leave at least two digits in an open cell, so that
+// the look ends at a cell with two.
+fn narrowest(marks: &[u8; 729]) -> usize
+    ensures { λ r. ⌜ r ≤ 81 ⌝ }
+{
+    let mut fewest = 10;
+    let mut at = 81;
+    let mut cell = 0;
+    while cell < 81 {
+        let here = digits_left(marks, cell);
+        if here == 2 {
+            return cell;
+        }
+        if here < fewest {
+            fewest = here;
+            at = cell;
+        }
+        cell += 1;
     }
     at
 }
@@ -108,15 +145,13 @@ fn dive(
 ) -> bool
     requires { ⌜ StateOk Extended (now marks) (now sums) decided ⌝ }
 {
-    let even = [1u32; 729];
-    let never = [0u32; 729];
     let mut known = decided;
     while known < 729 {
-        let i = lightest(&*marks, &even, &never, 81);
-        if i == 81 {
+        let cell = narrowest(&*marks);
+        if cell == 81 {
             return false;
         }
-        let p = open_place(&*marks, group_at(i));
+        let p = open_place(&*marks, Group::Cell(cell));
         if marks[p] != 0 {
             return false;
         }
@@ -227,7 +262,7 @@ fn weigh_from(
 }
 
 // A trial of each place: first of those at which the test has failed before.
-fn weigh(
+fn weigh_once(
     marks: &mut [u8; 729],
     sums: &mut [u16; 324],
     list: &mut [u16; 2916],
@@ -242,6 +277,99 @@ fn weigh(
     match first {
         Reached::Clash => Reached::Clash,
         Reached::Decided(known) => weigh_from(marks, sums, list, known, weights, failures, 0),
+    }
+}
+
+// Such walks of trials, until one decides nothing more.
+fn weigh(
+    marks: &mut [u8; 729],
+    sums: &mut [u16; 324],
+    list: &mut [u16; 2916],
+    decided: usize,
+    weights: &mut [u32; 729],
+    failures: &mut [u32; 729],
+) -> Reached
+    requires { ⌜ StateOk Extended (now marks) (now sums) decided ⌝ }
+    ensures { λ r. ⌜ WeighedOk (now (marks .entry)) (now (marks .exit)) (now (sums .exit)) r ⌝ }
+{
+    let mut known = decided;
+    while known < 729 {
+        let weighed = weigh_once(marks, sums, list, known, weights, failures);
+        match weighed {
+            Reached::Clash => {
+                return Reached::Clash;
+            }
+            Reached::Decided(more) => {
+                if more == known {
+                    return Reached::Decided(more);
+                }
+                known = more;
+            }
+        }
+    }
+    Reached::Decided(known)
+}
+
+// What is found of marks before a branch: that they leave nothing; that they have become those of a full grid; or how many they decide and the
+// number of the group to branch on.
+pub(crate) enum Looked {
+    Nothing,
+    Full,
+    Branch(usize, usize),
+}
+
+// A dive for a full grid, else walks of trials, and the group that they find lightest.
+fn survey(
+    marks: &mut [u8; 729],
+    sums: &mut [u16; 324],
+    list: &mut [u16; 2916],
+    decided: usize,
+    failures: &mut [u32; 729],
+) -> Looked
+    requires { ⌜ StateOk Extended (now marks) (now sums) decided ⌝ }
+    ensures { λ r. ⌜ LookedOk (now (marks .entry)) (now (marks .exit)) (now (sums .exit)) r ⌝ }
+{
+    let mut full = *marks;
+    let mut full_sums = *sums;
+    if dive(&mut full, &mut full_sums, list, decided) {
+        *marks = full;
+        return Looked::Full;
+    }
+    let mut weights = [0u32; 729];
+    let weighed = weigh(marks, sums, list, decided, &mut weights, failures);
+    match weighed {
+        Reached::Clash => Looked::Nothing,
+        Reached::Decided(known) => {
+            let i = lightest(&*marks, &weights, &*failures);
+            if i == GROUPS {
+                Looked::Full
+            } else {
+                Looked::Branch(known, i)
+            }
+        }
+    }
+}
+
+// What an attempt does before a branch: a plain one only looks for the cell with the fewest digits left.
+fn look(
+    marks: &mut [u8; 729],
+    sums: &mut [u16; 324],
+    list: &mut [u16; 2916],
+    decided: usize,
+    failures: &mut [u32; 729],
+    plain: bool,
+) -> Looked
+    requires { ⌜ StateOk Extended (now marks) (now sums) decided ⌝ }
+    ensures { λ r. ⌜ LookedOk (now (marks .entry)) (now (marks .exit)) (now (sums .exit)) r ⌝ }
+{
+    if !plain {
+        return survey(marks, sums, list, decided, failures);
+    }
+    let cell = narrowest(&*marks);
+    if cell == 81 {
+        Looked::Full
+    } else {
+        Looked::Branch(decided, cell)
     }
 }
 
@@ -261,6 +389,7 @@ fn refute_within(
     decided: usize,
     failures: &mut [u32; 729],
     nodes: u32,
+    plain: bool,
 ) -> Tried
     requires { ⌜ StateOk Extended (now marks) (now sums) decided ⌝ }
     ensures { λ r. ⌜ TriedOk (now (marks .entry)) r ⌝ }
@@ -268,21 +397,11 @@ fn refute_within(
     if nodes == 0 {
         return Tried::Spent;
     }
-    let mut full = *marks;
-    let mut full_sums = *sums;
-    if dive(&mut full, &mut full_sums, list, decided) {
-        *marks = full;
-        return Tried::Full;
-    }
-    let mut weights = [0u32; 729];
-    let weighed = weigh(marks, sums, list, decided, &mut weights, failures);
-    match weighed {
-        Reached::Clash => Tried::Refuted(nodes - 1),
-        Reached::Decided(known) => {
-            let i = lightest(&*marks, &weights, &*failures, GROUPS);
-            if i == GROUPS {
-                return Tried::Full;
-            }
+    let looked = look(marks, sums, list, decided, failures, plain);
+    match looked {
+        Looked::Nothing => Tried::Refuted(nodes - 1),
+        Looked::Full => Tried::Full,
+        Looked::Branch(known, i) => {
             let group = group_at(i);
             let mut rest = nodes - 1;
             let mut k = 0;
@@ -291,37 +410,40 @@ fn refute_within(
                 if marks[p] == 1 {
                     return Tried::Spent;
                 }
-                let mut next = *marks;
-                let mut next_sums = *sums;
-                let assumed = close_true(
-                    &mut next,
-                    &mut next_sums,
-                    list,
-                    known,
-                    ClauseSet::Extended,
-                    p,
-                );
-                match assumed {
-                    Reached::Clash => {}
-                    Reached::Decided(more) => {
-                        let tried = refute_within(
-                            &mut next,
-                            &mut next_sums,
-                            list,
-                            more,
-                            failures,
-                            rest,
-                        );
-                        match tried {
-                            Tried::Refuted(n) => {
-                                rest = n;
-                            }
-                            Tried::Full => {
-                                *marks = next;
-                                return Tried::Full;
-                            }
-                            Tried::Spent => {
-                                return Tried::Spent;
+                if marks[p] != 2 {
+                    let mut next = *marks;
+                    let mut next_sums = *sums;
+                    let assumed = close_true(
+                        &mut next,
+                        &mut next_sums,
+                        list,
+                        known,
+                        ClauseSet::Extended,
+                        p,
+                    );
+                    match assumed {
+                        Reached::Clash => {}
+                        Reached::Decided(more) => {
+                            let tried = refute_within(
+                                &mut next,
+                                &mut next_sums,
+                                list,
+                                more,
+                                failures,
+                                rest,
+                                plain,
+                            );
+                            match tried {
+                                Tried::Refuted(n) => {
+                                    rest = n;
+                                }
+                                Tried::Full => {
+                                    *marks = next;
+                                    return Tried::Full;
+                                }
+                                Tried::Spent => {
+                                    return Tried::Spent;
+                                }
                             }
                         }
                     }
@@ -333,9 +455,9 @@ fn refute_within(
     }
 }
 
-// Whether the marks are shown to leave nothing. Where they are not, they become those of a full grid that they leave, unless all attempts
-// are spent. Each attempt has a third more nodes than the one before, and goes by where that one failed.
-pub(crate) fn refuted(
+// Attempts that survey, each with a third more nodes than the one before and going by where that one failed, until one is not spent. The marks
+// then become those of a full grid, where they are not refuted.
+fn refuted_by_surveys(
     marks: &mut [u8; 729],
     sums: &[u16; 324],
     list: &mut [u16; 2916],
@@ -349,7 +471,15 @@ pub(crate) fn refuted(
     while nodes < 16777216 {
         let mut near = *marks;
         let mut near_sums = *sums;
-        let tried = refute_within(&mut near, &mut near_sums, list, decided, failures, nodes);
+        let tried = refute_within(
+            &mut near,
+            &mut near_sums,
+            list,
+            decided,
+            failures,
+            nodes,
+            false,
+        );
         match tried {
             Tried::Refuted(_) => {
                 return true;
@@ -363,4 +493,40 @@ pub(crate) fn refuted(
         nodes += nodes / 3;
     }
     false
+}
+
+// The nodes of the plain attempt.
+const PLAIN: u32 = 160;
+
+// Whether the marks are shown to leave nothing: by a plain attempt, which is enough for most, or by those that survey. Where they are not, they
+// become those of a full grid that they leave, unless all attempts are spent.
+pub(crate) fn refuted(
+    marks: &mut [u8; 729],
+    sums: &[u16; 324],
+    list: &mut [u16; 2916],
+    decided: usize,
+    failures: &mut [u32; 729],
+) -> bool
+    requires { ⌜ StateOk Extended (now marks) (now sums) decided ⌝ }
+    ensures { λ r. ⌜ (r ≡ true → left (now (marks .entry)) ≡ List.[]) ⌝ }
+{
+    let mut near = *marks;
+    let mut near_sums = *sums;
+    let tried = refute_within(
+        &mut near,
+        &mut near_sums,
+        list,
+        decided,
+        failures,
+        PLAIN,
+        true,
+    );
+    match tried {
+        Tried::Refuted(_) => true,
+        Tried::Full => {
+            *marks = near;
+            false
+        }
+        Tried::Spent => refuted_by_surveys(marks, sums, list, decided, failures),
+    }
 }

@@ -18,17 +18,16 @@ use Rattle.closure.proofs.Marks.{decided-bounded}
 use Rattle.clauses.proofs.decode.place.Reads as place-reads
 use Rattle.propagation.specs.Steps.{ClosesTo}
 use Rattle.propagation.specs.declared.close.Reached.{Reached}
-use Rattle.propagation.specs.declared.close.Reached.the-variants.{Clash, Decided}
 use Rattle.propagation.proofs.close.close_true.Reads as close-true-reads
-use Rattle.search.specs.Search.{left, Weighs, WeighedOk, TriedOk}
-use Rattle.search.proofs.Refuting.{Refuted, clash-refutes, none-refutes, closed-more, group-refutes, weighs-none}
+use Rattle.search.specs.declared.refute.Looked.{Looked}
+use Rattle.search.specs.declared.refute.Looked.the-variants.{Nothing, Branch}
+use Rattle.search.specs.Search.{left, Weighs, LookedOk, TriedOk}
+use Rattle.search.proofs.Refuting.{Refuted, false-refutes, clash-refutes, none-refutes, closed-more, group-refutes, weighs-none}
 use Rattle.search.proofs.refute.refute_within.Reads as refute
 use Rattle.search.proofs.refute.refute_within.Kinds as refute-kinds
 use Rattle.search.proofs.refute.+refute_within.Lts-refute_within as lts
-use Rattle.search.proofs.refute.dive.Reads as dive-reads
 use Rattle.search.proofs.refute.group_at.Reads as group-at-reads
-use Rattle.search.proofs.refute.lightest.Reads as lightest-reads
-use Rattle.search.proofs.refute.weigh.Reads as weigh-reads
+use Rattle.search.proofs.refute.look.Reads as look-reads
 use Rattle.search.proofs.refute.+refute_within.{statement}
 use Rattle.search.proofs.refute.+refute_within.Tie.{close}
 
@@ -46,12 +45,8 @@ refute-below t = and 4 refute-kinds.ps (falls 4 refute-kinds.ps _<_ μ-refute t)
 -- what the callees ask and give
 abbrev calls : ℕ → lts.Claims
 calls t = (
-  dive-reads.Asked,
-  dive-reads.Learnt,
-  weigh-reads.Asked,
-  weigh-reads.Learnt,
-  lightest-reads.Asked,
-  lightest-reads.Learnt,
+  look-reads.Asked,
+  look-reads.Learnt,
   group-at-reads.Asked,
   group-at-reads.Learnt,
   place-reads.Asked,
@@ -64,41 +59,39 @@ calls t = (
 
 -- the first k places of the group are refuted
 abbrev Inv : lts.InvT-loop
-Inv marks₀ sums list₀ decided failures₀ nodes known i group rest₀ k₀ marks list failures rest k =
+Inv marks₀ sums list₀ decided failures₀ nodes plain known i group rest₀ k₀ marks list failures rest k =
     (k ≤ 9) × Weighs marks₀ marks sums known × ((j : ℕ) → j < k → Refuted marks (placeOf group j))
 
 abbrev μ-loop : lts.MeasureT-loop
-μ-loop marks₀ sums list₀ decided failures₀ nodes known i group rest₀ k₀ marks list failures rest k = 9 - k
+μ-loop marks₀ sums list₀ decided failures₀ nodes plain known i group rest₀ k₀ marks list failures rest k = 9 - k
 
--- where the marks are weighed
-module _ (t : ℕ) (c : lts.After-weigh (calls t) (refute-at t) refute.Post Inv μ-loop) where
+-- where the marks have been looked at
+module _ (t : ℕ) (c : lts.After-look (calls t) (refute-at t) refute.Post Inv μ-loop) where
   abbrev first : lts.Start (calls t) (refute-at t) refute.Post Inv μ-loop
-  first = c .before .before .before .before .before .before .before .before .before .before .before .before .before .before
+  first = c .before .before .before .before .before .before
 
-  abbrev n : List ℕ
-  n = c .weigh .last .0
+  looked : (r : Looked) → c .look .result ≡ r → LookedOk (first .args .marks .now) (c .look .last .0) (c .look .last .1 .0) r
+  looked r e = subst (LookedOk (first .args .marks .now) (c .look .last .0) (c .look .last .1 .0)) e (c .look .ensures)
 
-  abbrev n-sums : List ℕ
-  n-sums = c .weigh .last .1 .0
-
-  weighed : (r : Reached) → c .weigh .result ≡ r → WeighedOk (first .args .marks .now) n n-sums r
-  weighed r e = subst (WeighedOk (first .args .marks .now) n n-sums) e (c .weigh .ensures)
-
--- where the group is chosen
-module _ (t : ℕ) (c : lts.After-group-at (calls t) (refute-at t) refute.Post Inv μ-loop) where
-  abbrev told : lts.After-weighed (calls t) (refute-at t) refute.Post Inv μ-loop
-  told = c .before .before .before .before .before .before .before
+-- where there is a group to branch on
+module _ (t : ℕ) (c : lts.After-looked (calls t) (refute-at t) refute.Post Inv μ-loop) where
+  abbrev after : lts.After-look (calls t) (refute-at t) refute.Post Inv μ-loop
+  after = c .before .before
 
   abbrev known : ℕ
-  known = told .weighed .given .0 .0
+  known = c .looked .given .0 .0
 
-  start : Weighs (first t (told .before .before) .args .marks .now) (n t (told .before .before)) (n-sums t (told .before .before)) known
-  start = weighed t (told .before .before) (Decided known) (told .weighed .given .1)
+  branch : Weighs (first t after .args .marks .now) (after .look .last .0) (after .look .last .1 .0) known × (c .looked .given .0 .1 .0 < 324)
+  branch = looked t after (Branch known (c .looked .given .0 .1 .0)) (c .looked .given .1)
 
--- where a place has been assumed
-module _ (t : ℕ) (c : lts.After-close-true (calls t) (refute-at t) refute.Post Inv μ-loop) where
+-- what the closure with a place comes to
+abbrev Assumed : List ℕ → ℕ → List ℕ → List ℕ → Reached → Type 0
+Assumed m p = ClosesTo Extended (With (has m) (pos (suc p)))
+
+-- where a place is not true
+module _ (t : ℕ) (c : lts.After-if32 (calls t) (refute-at t) refute.Post Inv μ-loop) where
   abbrev chosen : lts.After-place (calls t) (refute-at t) refute.Post Inv μ-loop
-  chosen = c .before .before .before .before .before .before .before .before
+  chosen = c .before .before .before
 
   abbrev turn : lts.At-loop (calls t) (refute-at t) refute.Post Inv μ-loop
   turn = chosen .before .before
@@ -115,57 +108,54 @@ module _ (t : ℕ) (c : lts.After-close-true (calls t) (refute-at t) refute.Post
   abbrev p : ℕ
   p = chosen .place .result
 
-  abbrev next : List ℕ
-  next = c .close-true .last .0
-
   -- the place that is refuted is the k-th of the group
   at-place : Refuted m p → Refuted m (placeOf (node .group-at .result) k)
   at-place = subst (Refuted m) (chosen .place .ensures .0)
 
-  assumed : (r : Reached) → c .close-true .result ≡ r → ClosesTo Extended (With (has m) (pos (suc p))) next (c .close-true .last .1 .0) r
-  assumed r e = subst (ClosesTo Extended (With (has m) (pos (suc p))) next (c .close-true .last .1 .0)) e (c .close-true .ensures)
-
 loop-holds : (t : ℕ) → lts.Need-loop-holds (calls t) (refute-at t) refute.Post Inv μ-loop
-loop-holds t c = (omega arith, weighs-none (start t c .state), λ j h. absurd (omega (arith, h)))
+loop-holds t c = (omega arith, weighs-none (branch t (c .before .before) .0 .state), λ j h. absurd (omega (arith, h)))
 
 place-requires : (t : ℕ) → lts.Need-place-requires (calls t) (refute-at t) refute.Post Inv μ-loop
 place-requires t c κs = (c .before .before .group-at .ensures, omega (arith, c .loop-test .taken))
 
 close-true-requires : (t : ℕ) → lts.Need-close-true-requires (calls t) (refute-at t) refute.Post Inv μ-loop
-close-true-requires t c κs = let e = c .before .before .before .before .before .before .before in (e .before .before .loop .inv .1 .state, e .place .ensures .1)
+close-true-requires t c κs = let a = c .before .before .before .before .before .before in (turn t a .loop .inv .1 .state, chosen t a .place .ensures .1)
 
 refuted-requires : (t : ℕ) → lts.Need-refute-within-requires (calls t) (refute-at t) refute.Post Inv μ-loop
 refuted-requires t c κs =
-    let a = c .before .before .before .before .before .before .before in
-    let w = c .before .before .before .before .before .assumed .given in
-    let s = assumed t a (Decided (w .0 .0)) (w .1) in
-    let more = closed-more (m t a) (p t a) s (chosen t a .place .ensures .1) (a .before .before .before .before .before .before .if4 .left) in
-    let g = node t a in
-    (omega (arith, first t (told t g .before .before) .pre .0, start t g .more, turn t a .loop .inv .1 .more, more, decided-bounded (next t a)), s .state)
+    let e = c .before .before .before .before .before in
+    let w = e .before .before in
+    let a = w .before .before .before .before .before .before .before in
+    let s = subst (Assumed (m t a) (p t a) (w .close-true .last .0) (w .close-true .last .1 .0)) (e .assumed .given .1) (w .close-true .ensures) in
+    let more = closed-more (m t a) (p t a) s (chosen t a .place .ensures .1) (a .before .if2 .left) in
+    let g = node t a .before .before in
+    (omega (arith, first t (after t g) .pre .0, branch t g .0 .more, turn t a .loop .inv .1 .more, more, decided-bounded (w .close-true .last .0)), s .state)
 
 loop-again : (t : ℕ) → lts.Need-loop-again (calls t) (refute-at t) refute.Post Inv μ-loop
 loop-again t c =
     let a = c .before in
     let here =
     at-place t a (⊎-elim
-    (λ w. clash-refutes (m t a) (p t a) (assumed t a Clash (w .1 .given .1) .answer))
-    (λ w. none-refutes (m t a) (p t a) (assumed t a (Decided (w .1 .given .0 .0)) (w .1 .given .1)) (subst (TriedOk (next t a)) (w .9 .given .1) (w .7 .ensures))) (c .match2 .came)) in
+    (λ w. clash-refutes (m t a) (p t a) (subst (Assumed (m t a) (p t a) (w .6 .last .0) (w .6 .last .1 .0)) (w .8 .given .1) (w .6 .ensures) .answer))
+    (⊎-elim
+    (λ w. none-refutes (m t a) (p t a) (subst (Assumed (m t a) (p t a) (w .6 .last .0) (w .6 .last .1 .0)) (w .8 .given .1) (w .6 .ensures)) (subst (TriedOk (w .6 .last .0)) (w .16 .given .1) (w .14 .ensures)))
+    (λ w. false-refutes (m t a) (p t a) (w .0 .left))) (c .if3 .came)) in
     let v = turn t a .loop .inv in (
       omega arith,
       v .1,
       λ j h. elim (decLt j (k t a)) [ yes l ↦ v .2 j l | no f ↦ subst (λ x. Refuted (m t a) (placeOf (node t a .group-at .result) x)) (omega arith) here ],
     )
 
-returns-8 : (t : ℕ) → lts.Need-returns-8 (calls t) (refute-at t) refute.Post Inv μ-loop
-returns-8 t c =
+returns-7 : (t : ℕ) → lts.Need-returns-7 (calls t) (refute-at t) refute.Post Inv μ-loop
+returns-7 t c =
     let l = c .before .loop in
     let g = c .before .before in
-    start t g .same ∙ l .inv .1 .same
+    branch t (g .before .before) .0 .same ∙ l .inv .1 .same
     ∙ group-refutes (l .marks) (l .inv .1 .state .marks .marks) (g .group-at .result) (g .group-at .ensures) (λ j h. l .inv .2 j (omega (arith, l .inv .0, c .loop-test .left)))
 
 pub +refute-within-spec : {M : Type 1} → statement M
 +refute-within-spec = close μ-refute λ t. lts.spec (calls t) (refute-at t) refute.Post Inv μ-loop
-    (λ c. search needs) (λ c κs. search needs) (λ c. search needs) (λ c κs. search needs) (λ c. search needs) (λ c. search needs) (λ c. search needs) (λ c κs. search needs)
-    (λ c. search needs) (λ c κs. search needs) (λ c. search needs) (loop-holds t) (place-requires t) (λ c. search needs) (λ c. search needs) (close-true-requires t) (λ c. search needs)
+    (λ c. search needs) (λ c κs. search needs) (λ c. search needs) (λ c. search needs) (λ c. search needs) (λ c. search needs) (λ c κs. branch t (c .before) .1)
+    (λ c. search needs) (loop-holds t) (place-requires t) (λ c. search needs) (λ c. search needs) (λ c. search needs) (close-true-requires t) (λ c. search needs)
     (λ c. search needs) (refuted-requires t) (λ c. search needs) (λ c. search needs) (λ c. search needs) (λ c. search needs) (λ c. search needs) (λ c. search needs)
-    (λ c. search needs) (loop-again t) (λ c. weighed t (c .before .before) Clash (c .enum-told .given .1)) (returns-8 t)
+    (λ c. search needs) (loop-again t) (λ c. looked t (c .before .before) Nothing (c .enum-told .given .1)) (λ c. search needs) (returns-7 t)

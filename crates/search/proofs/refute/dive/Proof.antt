@@ -16,17 +16,17 @@ use Rattle.search.proofs.refute.dive.Statement.{statement}
 use Rattle.search.proofs.refute.dive.Tie as tie
 
 abbrev Inv-loop : tie.InvT-loop
-Inv-loop marks₀ sums₀ list₀ decided even never known₀ marks sums list known = StateOk Extended marks sums known
+Inv-loop marks₀ sums₀ list₀ decided known₀ marks sums list known = StateOk Extended marks sums known
 
 abbrev μ-loop : tie.MeasureT-loop
-μ-loop marks₀ sums₀ list₀ decided even never known₀ marks sums list known = 729 - known
+μ-loop marks₀ sums₀ list₀ decided known₀ marks sums list known = 729 - known
 
 -- where a place has been chosen
 abbrev chosen : tie.After-close-true-arg3 Inv-loop μ-loop → tie.After-open-place Inv-loop μ-loop
 chosen c = c .before .before .before .before .before
 
 abbrev turn : tie.After-close-true-arg3 Inv-loop μ-loop → tie.At-loop Inv-loop μ-loop
-turn c = chosen c .before .before .before .before .before .before .before .before .before
+turn c = chosen c .before .before .before .before .before .before
 
 close-true-requires : tie.Need-close-true-requires Inv-loop μ-loop
 close-true-requires c κs = (turn c .loop .inv, chosen c .open-place .ensures)
@@ -54,5 +54,5 @@ less c =
 pub dive-spec : {M : Type 1} → statement M
 dive-spec =
     tie.close
-    (tie.spec Inv-loop μ-loop (λ c. search needs) (λ c κs. search needs) (λ c. search needs) (λ c κs. search needs) (λ c κs. search needs) (λ c. search needs) (λ c. search needs)
+    (tie.spec Inv-loop μ-loop (λ c. search needs) (λ c κs. search needs) (λ c. search needs) (λ c κs. search needs) (λ c. search needs) (λ c. search needs)
     close-true-requires (λ c. search needs) (λ c. search needs) (λ c. search needs) less (λ c. closed c .state) (λ c. search needs))

@@ -7,10 +7,10 @@ use Rattle.search.proofs.refute.lightest.Statement.{statement}
 use Rattle.search.proofs.refute.lightest.Tie as tie
 
 abbrev Inv-loop : tie.InvT-loop
-Inv-loop marks weights failures groups least₀ at₀ i₀ least at i = at ≤ groups
+Inv-loop marks weights failures least₀ at₀ i₀ least at i = at ≤ 324
 
 abbrev μ-loop : tie.MeasureT-loop
-μ-loop marks weights failures groups least₀ at₀ i₀ least at i = groups - i
+μ-loop marks weights failures least₀ at₀ i₀ least at i = 324 - i
 
 again : tie.Need-loop-again Inv-loop μ-loop
 again c =
