@@ -4,7 +4,7 @@ use mathlib.Core.Path.{_≡_, refl, ap, sym, subst, _∙_}
 use mathlib.Core.Logic.{_⊎_, inl, inr, ⊎-elim, _↔_}
 use mathlib.Core.Bool.{Bool}
 use mathlib.Core.List.{List, List·Memᴰ}
-use Prim.Native.Nat.{ℕ, zero, suc, _+_, _*_, _-_, _<_}
+use Prim.Native.Nat.{ℕ, zero, suc, _+_, _*_, _-_, _/_, _%_, _<_}
 use native.Mathlib.Decide.{decLt}
 use native.Mathlib.Omega.{arith}
 use lib.Dec.{T, eqb, eqb→eq}
@@ -28,27 +28,36 @@ use Rattle.closure.proofs.Sets.{least-given, least-mono}
 use Rattle.closure.proofs.Marks.{zeros, has-blank, is-marks-blank}
 use Rattle.closure.proofs.Propagation.{closes-same}
 use Rattle.propagation.specs.Groups.{groupIn}
-use Rattle.propagation.specs.Sums.{weight, sumOf, SumsOk, blankSum}
+use Rattle.propagation.specs.Sums.{weight, sumOf, SumsOk}
 use Rattle.propagation.specs.Steps.{StateOk, answerOf, ClosesTo}
 use Rattle.propagation.specs.declared.close.Reached.{Reached}
 use Rattle.propagation.proofs.Slots.{nines-below}
 use Rattle.propagation.proofs.Rules.{groups-closed}
 use Rattle.propagation.proofs.Closing.{closes-between}
 
--- the sums where nothing is decided: a test that is computed, over every slot
+-- the sum of the q-th group of each kind where nothing is decided: a test that is computed
+abbrev pub blankSum : ℕ → ℕ → ℕ
+blankSum zero q = 9252 + 81 * q
+blankSum (suc zero) q = 12132 + 9 * q
+blankSum (suc (suc zero)) q = 9540 + (729 * (q / 9) + 9 * (q % 9))
+blankSum (suc (suc (suc i))) q = 10026 + 9 * (q / 9 + (243 * (q % 9 / 3) + 27 * (q % 3)))
+
 abbrev sumRight : ℕ → Bool
-sumRight x = eqb (total 9 (λ k. 1024 + placeOf (groupIn x) k)) (blankSum x)
+sumRight x = eqb (total 9 (λ k. 1024 + placeOf (groupIn x) k)) (blankSum (x / 81) (x % 81))
 
 sums-right : T (all 324 sumRight)
-unfolding all total placeOf cellOf groupIn blankSum
+unfolding all total placeOf cellOf groupIn
 sums-right = tt
 
-pub blank-sums-ok : (a : List ℕ) → length a ≡ 324 → ((x : ℕ) → x < 324 → getD a x 0 ≡ blankSum x) → SumsOk Extended blank a
+pub blank-sums-ok : (a : List ℕ) → length a ≡ 324 → ((i q : ℕ) → i < 4 → q < 81 → getD a (81 * i + q) 0 ≡ blankSum i q) → SumsOk Extended blank a
 unfolding sumOf
 blank-sums-ok a long h =
     record {
       long = long;
-      sums = λ x b. h x b ∙ sym (eqb→eq (total 9 (λ k. 1024 + placeOf (groupIn x) k)) (blankSum x) (all-iff 324 sumRight .0 sums-right x b))
+      sums = λ x b.
+          let e : 81 * (x / 81) + x % 81 ≡ x = omega arith in
+          ap (λ y. getD a y 0) (sym e) ∙ h (x / 81) (x % 81) (omega arith) (omega arith)
+          ∙ sym (eqb→eq (total 9 (λ k. 1024 + placeOf (groupIn x) k)) (blankSum (x / 81) (x % 81)) (all-iff 324 sumRight .0 sums-right x b))
           ∙ total-same 9 (λ k. 1024 + placeOf (groupIn x) k) (λ k. weight (getD blank (placeOf (groupIn x) k) 0) (placeOf (groupIn x) k))
           (λ k c. ap (λ b. weight b (placeOf (groupIn x) k)) (sym (zeros 729 (placeOf (groupIn x) k))));
     }

@@ -1,10 +1,8 @@
 -- Sums of weights. Each place of a nine-literal clause weighs nothing where it is false, some 1,024 where it is undecided, and some 2,048 where
 -- it is true, so that the sum tells what the clause says: 0, that all places are false; less than 2,048, that one is left, and which.
 use mathlib.Core.Path.{_≡_}
-use mathlib.Core.Bool.{cond}
 use mathlib.Core.List.{List}
-use Prim.Native.Nat.{ℕ, zero, suc, _+_, _*_, _/_, _%_, _<_}
-use lib.Dec.{ltb}
+use Prim.Native.Nat.{ℕ, zero, suc, _+_, _*_, _<_}
 use lib.ListN.{length, getD}
 use Rattle.grid.specs.Counting.{total}
 use Rattle.clauses.specs.Shape.{placeOf}
@@ -30,10 +28,3 @@ InSlots s x = x < 81 * nineKinds s
 pub record SumsOk (s : ClauseSet) (m a : List ℕ) : Type 0 where
   pub long : length a ≡ 324
   pub sums : (x : ℕ) → InSlots s x → getD a x 0 ≡ sumOf m (groupIn x)
-
--- the sum of slot x where nothing is decided
-unfoldable pub blankSum : ℕ → ℕ
-blankSum x =
-    cond (ltb x 81) (9252 + 81 * (x % 81))
-    (cond (ltb x 162) (12132 + 9 * (x % 81))
-    (cond (ltb x 243) (9540 + (729 * (x % 81 / 9) + 9 * (x % 81 % 9))) (10026 + 9 * (x % 81 / 9 + (243 * (x % 81 % 9 / 3) + 27 * (x % 81 % 3))))))

@@ -20,7 +20,7 @@ ghost use Rattle.clauses.specs.declared.ClauseSet.the-variants.{Extended};
 ghost use Rattle.closure.specs.Closure.{With};
 ghost use Rattle.closure.specs.Marks.{has, isDecided, blank};
 ghost use Rattle.propagation.specs.Acting.{Ready, Struck, LookedOk};
-ghost use Rattle.propagation.specs.Sums.{SumsOk, blankSum};
+ghost use Rattle.propagation.specs.Sums.{SumsOk};
 ghost use Rattle.propagation.specs.Steps.{StateOk, ClosesTo};
 
 // A contradiction, or how many variables are decided.
@@ -146,32 +146,18 @@ pub fn close_true(
     close_with(marks, sums, list, decided, set, literal::positive(place))
 }
 
-// What the places of a slot's group weigh where none is decided.
-fn blank_sum(slot: usize) -> u16
-    requires { ⌜ slot < 324 ⌝ }
-    ensures { λ r. ⌜ r ≡ blankSum slot ⌝ }
-{
-    let q = slot % 81;
-    if slot < 81 {
-        (9252 + 81 * q) as u16
-    } else if slot < 162 {
-        (12132 + 9 * q) as u16
-    } else if slot < 243 {
-        (9540 + (729 * (q / 9) + 9 * (q % 9))) as u16
-    } else {
-        (10026 + 9 * (q / 9 + (243 * (q % 9 / 3) + 27 * (q % 3)))) as u16
-    }
-}
-
-// The sums where no place is decided.
+// The sums where no place is decided: the q-th cell, column, row and box.
 fn blank_sums() -> [u16; 324]
     ensures { λ r. ⌜ SumsOk Extended blank r ⌝ }
 {
     let mut sums = [0u16; 324];
-    let mut x = 0;
-    while x < 324 {
-        sums[x] = blank_sum(x);
-        x += 1;
+    let mut q = 0;
+    while q < 81 {
+        sums[q] = (9252 + 81 * q) as u16;
+        sums[81 + q] = (12132 + 9 * q) as u16;
+        sums[162 + q] = (9540 + (729 * (q / 9) + 9 * (q % 9))) as u16;
+        sums[243 + q] = (10026 + 9 * (q / 9 + (243 * (q % 9 / 3) + 27 * (q % 3)))) as u16;
+        q += 1;
     }
     sums
 }
