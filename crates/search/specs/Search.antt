@@ -15,8 +15,8 @@ use Rattle.propagation.specs.declared.close.Reached.{Reached}
 use Rattle.propagation.specs.declared.close.Reached.the-variants.{Clash, Decided}
 use Rattle.search.specs.Completions.{those, completions}
 use Rattle.search.specs.declared.find.Found.{Found}
-use Rattle.search.specs.declared.refute.Looked.{Looked}
-use Rattle.search.specs.declared.refute.Looked.the-variants.{Nothing, Branch}
+use Rattle.search.specs.declared.branching.Looked.{Looked}
+use Rattle.search.specs.declared.branching.Looked.the-variants.{Nothing, Branch}
 use Rattle.search.specs.declared.refute.Tried.{Tried}
 use Rattle.search.specs.declared.refute.Tried.the-variants.{Refuted, Full, Spent}
 

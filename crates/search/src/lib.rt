@@ -4,6 +4,8 @@
 //     SearchAnswer    what it answers
 //     find            what the search finds, in byte order
 //     refute          a test whether marks leave nothing
+//     branching       where the test branches
+mod branching;
 pub mod find;
 mod refute;
 

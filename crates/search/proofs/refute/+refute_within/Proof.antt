@@ -19,15 +19,15 @@ use Rattle.clauses.proofs.decode.place.Reads as place-reads
 use Rattle.propagation.specs.Steps.{ClosesTo}
 use Rattle.propagation.specs.declared.close.Reached.{Reached}
 use Rattle.propagation.proofs.close.close_true.Reads as close-true-reads
-use Rattle.search.specs.declared.refute.Looked.{Looked}
-use Rattle.search.specs.declared.refute.Looked.the-variants.{Nothing, Branch}
+use Rattle.search.specs.declared.branching.Looked.{Looked}
+use Rattle.search.specs.declared.branching.Looked.the-variants.{Nothing, Branch}
 use Rattle.search.specs.Search.{left, Weighs, LookedOk, TriedOk}
 use Rattle.search.proofs.Refuting.{Refuted, false-refutes, clash-refutes, none-refutes, closed-more, group-refutes, weighs-none}
 use Rattle.search.proofs.refute.refute_within.Reads as refute
 use Rattle.search.proofs.refute.refute_within.Kinds as refute-kinds
 use Rattle.search.proofs.refute.+refute_within.Lts-refute_within as lts
-use Rattle.search.proofs.refute.group_at.Reads as group-at-reads
-use Rattle.search.proofs.refute.look.Reads as look-reads
+use Rattle.search.proofs.branching.group_at.Reads as group-at-reads
+use Rattle.search.proofs.branching.look.Reads as look-reads
 use Rattle.search.proofs.refute.+refute_within.{statement}
 use Rattle.search.proofs.refute.+refute_within.Tie.{close}
 

@@ -5,8 +5,8 @@ use Rattle.propagation.specs.declared.close.Reached.{Reached}
 use Rattle.propagation.specs.declared.close.Reached.the-variants.{Clash, Decided}
 use Rattle.search.specs.Search.{WeighedOk}
 use Rattle.search.proofs.Refuting.{weighed-again}
-use Rattle.search.proofs.refute.weigh_once.Statement.{statement}
-use Rattle.search.proofs.refute.weigh_once.Tie as tie
+use Rattle.search.proofs.branching.weigh_once.Statement.{statement}
+use Rattle.search.proofs.branching.weigh_once.Tie as tie
 
 -- what the first does
 once : (c : tie.After-weigh-from) (r : Reached) → c .weigh-from .result ≡ r → WeighedOk (c .before .before .before .before .before .before .args .marks .now) (c .weigh-from .last .0) (c .weigh-from .last .1 .0) r

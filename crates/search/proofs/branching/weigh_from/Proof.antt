@@ -6,8 +6,8 @@ use borrow.Author.Needs.{needs}
 use Rattle.propagation.specs.declared.close.Reached.the-variants.{Clash, Decided}
 use Rattle.search.specs.Search.{Weighs, WeighedOk}
 use Rattle.search.proofs.Refuting.{weighs-none, weighed-again}
-use Rattle.search.proofs.refute.weigh_from.Statement.{statement}
-use Rattle.search.proofs.refute.weigh_from.Tie as tie
+use Rattle.search.proofs.branching.weigh_from.Statement.{statement}
+use Rattle.search.proofs.branching.weigh_from.Tie as tie
 
 abbrev Inv-loop : tie.InvT-loop
 Inv-loop marks₀ sums₀ list₀ decided weights₀ failures₀ least known₀ p₀ marks sums list weights failures known p = Weighs marks₀ marks sums known

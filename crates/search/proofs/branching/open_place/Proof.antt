@@ -1,8 +1,8 @@
 -- Every place of a group is below 729.
 use Prim.Native.Nat.{_-_, _≤_}
 use borrow.Author.Needs.{needs}
-use Rattle.search.proofs.refute.open_place.Statement.{statement}
-use Rattle.search.proofs.refute.open_place.Tie as tie
+use Rattle.search.proofs.branching.open_place.Statement.{statement}
+use Rattle.search.proofs.branching.open_place.Tie as tie
 
 abbrev Inv-loop : tie.InvT-loop
 Inv-loop marks group k₀ k = k ≤ 8

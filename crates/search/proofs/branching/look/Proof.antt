@@ -2,8 +2,8 @@
 use native.Mathlib.Omega.{arith}
 use borrow.Author.Needs.{needs}
 use Rattle.search.proofs.Refuting.{weighs-none}
-use Rattle.search.proofs.refute.look.Statement.{statement}
-use Rattle.search.proofs.refute.look.Tie as tie
+use Rattle.search.proofs.branching.look.Statement.{statement}
+use Rattle.search.proofs.branching.look.Tie as tie
 
 pub look-spec : {M : Type 1} → statement M
 look-spec =

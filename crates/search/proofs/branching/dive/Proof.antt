@@ -12,8 +12,8 @@ use Rattle.closure.proofs.Marks.{decided-bounded}
 use Rattle.propagation.specs.Steps.{StateOk, ClosesTo}
 use Rattle.propagation.specs.declared.close.Reached.the-variants.{Decided}
 use Rattle.search.proofs.Refuting.{closed-more}
-use Rattle.search.proofs.refute.dive.Statement.{statement}
-use Rattle.search.proofs.refute.dive.Tie as tie
+use Rattle.search.proofs.branching.dive.Statement.{statement}
+use Rattle.search.proofs.branching.dive.Tie as tie
 
 abbrev Inv-loop : tie.InvT-loop
 Inv-loop marks₀ sums₀ list₀ decided known₀ marks sums list known = StateOk Extended marks sums known

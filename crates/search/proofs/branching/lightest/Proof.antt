@@ -3,8 +3,8 @@ use mathlib.Core.Logic.{⊎-elim}
 use Prim.Native.Nat.{_-_, _≤_}
 use native.Mathlib.Omega.{arith}
 use borrow.Author.Needs.{needs}
-use Rattle.search.proofs.refute.lightest.Statement.{statement}
-use Rattle.search.proofs.refute.lightest.Tie as tie
+use Rattle.search.proofs.branching.lightest.Statement.{statement}
+use Rattle.search.proofs.branching.lightest.Tie as tie
 
 abbrev Inv-loop : tie.InvT-loop
 Inv-loop marks weights failures least₀ at₀ i₀ least at i = at ≤ 324

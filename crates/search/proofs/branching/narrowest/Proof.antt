@@ -3,8 +3,8 @@ use mathlib.Core.Logic.{⊎-elim}
 use Prim.Native.Nat.{_-_, _≤_}
 use native.Mathlib.Omega.{arith}
 use borrow.Author.Needs.{needs}
-use Rattle.search.proofs.refute.narrowest.Statement.{statement}
-use Rattle.search.proofs.refute.narrowest.Tie as tie
+use Rattle.search.proofs.branching.narrowest.Statement.{statement}
+use Rattle.search.proofs.branching.narrowest.Tie as tie
 
 abbrev Inv-loop : tie.InvT-loop
 Inv-loop marks fewest₀ at₀ cell₀ fewest at cell = at ≤ 81

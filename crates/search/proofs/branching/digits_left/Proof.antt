@@ -3,8 +3,8 @@ use mathlib.Core.Logic.{⊎-elim}
 use Prim.Native.Nat.{_-_, _≤_}
 use native.Mathlib.Omega.{arith}
 use borrow.Author.Needs.{needs}
-use Rattle.search.proofs.refute.digits_left.Statement.{statement}
-use Rattle.search.proofs.refute.digits_left.Tie as tie
+use Rattle.search.proofs.branching.digits_left.Statement.{statement}
+use Rattle.search.proofs.branching.digits_left.Tie as tie
 
 abbrev Inv-loop : tie.InvT-loop
 Inv-loop marks cell open₀ k₀ open-now k = (k ≤ 9) × (open-now ≤ k)

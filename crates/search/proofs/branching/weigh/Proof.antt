@@ -8,8 +8,8 @@ use Rattle.propagation.specs.declared.close.Reached.{Reached}
 use Rattle.propagation.specs.declared.close.Reached.the-variants.{Clash, Decided}
 use Rattle.search.specs.Search.{Weighs, WeighedOk}
 use Rattle.search.proofs.Refuting.{weighs-none, weighed-again}
-use Rattle.search.proofs.refute.weigh.Statement.{statement}
-use Rattle.search.proofs.refute.weigh.Tie as tie
+use Rattle.search.proofs.branching.weigh.Statement.{statement}
+use Rattle.search.proofs.branching.weigh.Tie as tie
 
 abbrev Inv-loop : tie.InvT-loop
 Inv-loop marks₀ sums₀ list₀ decided weights₀ failures₀ known₀ marks sums list weights failures known = Weighs marks₀ marks sums known

@@ -3,8 +3,8 @@ use mathlib.Core.Logic.{⊎-elim}
 use Prim.Native.Nat.{_*_, _-_, _≤_}
 use native.Mathlib.Omega.{arith}
 use borrow.Author.Needs.{needs}
-use Rattle.search.proofs.refute.load.Statement.{statement}
-use Rattle.search.proofs.refute.load.Tie as tie
+use Rattle.search.proofs.branching.load.Statement.{statement}
+use Rattle.search.proofs.branching.load.Tie as tie
 
 abbrev Inv-loop : tie.InvT-loop
 Inv-loop marks weights failures group sum₀ failed₀ j₀ sum failed j = (j ≤ 9) × (sum ≤ j * 4294967296) × (failed ≤ j * 4294967296)

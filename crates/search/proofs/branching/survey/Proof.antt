@@ -5,8 +5,8 @@ use borrow.Author.Needs.{needs}
 use Rattle.propagation.specs.declared.close.Reached.{Reached}
 use Rattle.propagation.specs.declared.close.Reached.the-variants.{Clash, Decided}
 use Rattle.search.specs.Search.{WeighedOk}
-use Rattle.search.proofs.refute.survey.Statement.{statement}
-use Rattle.search.proofs.refute.survey.Tie as tie
+use Rattle.search.proofs.branching.survey.Statement.{statement}
+use Rattle.search.proofs.branching.survey.Tie as tie
 
 -- what the trials come to
 weighed : (c : tie.After-weigh) (r : Reached) → c .weigh .result ≡ r → WeighedOk (c .before .before .before .before .before .before .before .before .before .before .before .before .before .args .marks .now) (c .weigh .last .0) (c .weigh .last .1 .0) r

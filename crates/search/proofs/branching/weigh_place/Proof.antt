@@ -21,8 +21,8 @@ use Rattle.propagation.specs.declared.close.Reached.{Reached}
 use Rattle.propagation.specs.declared.close.Reached.the-variants.{Clash, Decided}
 use Rattle.propagation.proofs.Literals.{byte-open}
 use Rattle.search.proofs.Refuting.{Refuted, clash-refutes, struck-weighs, weighs-none}
-use Rattle.search.proofs.refute.weigh_place.Statement.{statement}
-use Rattle.search.proofs.refute.weigh_place.Tie as tie
+use Rattle.search.proofs.branching.weigh_place.Statement.{statement}
+use Rattle.search.proofs.branching.weigh_place.Tie as tie
 
 module _ (c : tie.After-close-true) where
   abbrev open-place : tie.Else1
