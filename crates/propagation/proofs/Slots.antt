@@ -14,12 +14,13 @@ use Rattle.grid.specs.House.{cellOf}
 use Rattle.grid.proofs.Table.{and-iff}
 use Rattle.grid.proofs.Counting.{all-iff}
 use Rattle.grid.proofs.House.{row-cell, column-cell, box-cell, by-house}
-use Rattle.clauses.specs.Shape.{placeOf, IsGroup}
+use Rattle.clauses.specs.Shape.{placeOf, IsGroup, shapeOf}
 use Rattle.clauses.specs.declared.ClauseSet.{ClauseSet}
 use Rattle.clauses.specs.declared.ClauseSet.the-variants.{Minimal, Extended}
 use Rattle.clauses.specs.declared.Group.{Group}
 use Rattle.clauses.specs.declared.Group.the-variants as group
-use Rattle.clauses.proofs.ShapeNumber.{sameGroup, group-eq}
+use Rattle.clauses.specs.declared.Shape.the-variants.{OneOf}
+use Rattle.clauses.proofs.ShapeNumber.{numberOf as shapeNumber, sameGroup, group-eq, shape-number}
 use Rattle.propagation.specs.Groups.{groupAt, indexAt, kindAt, numberOf, nineKinds, NineKind, groupIn, clauseIn, slotAt}
 use Rattle.propagation.specs.declared.groups.Kind.{Kind}
 use Rattle.propagation.specs.declared.groups.Kind.the-variants.{Cell, Column, Row, Box}
@@ -207,3 +208,18 @@ pub clause-once : (x y : ℕ) → x < 324 → y < 324 → clauseIn x ≡ clauseI
 clause-once x y a b e = ⊎-elim
     (λ u. ⊎-elim (λ v. omega (arith, u .1, v .1, e)) (λ v. omega (arith, u .1, v .1, e)) (clause-number y))
     (λ u. ⊎-elim (λ v. omega (arith, u .1, v .1, e)) (λ v. omega (arith, u .1, v .1, e)) (clause-number y)) (clause-number x)
+
+-- it is document 01's number of the slot's clause: a test that is computed
+abbrev numberRight : ℕ → Bool
+numberRight x = eqb (shapeNumber (OneOf (groupIn x))) (clauseIn x)
+
+numbers-right : T (all 324 numberRight)
+unfolding all shapeNumber groupIn clauseIn
+numbers-right = tt
+
+pub slot-clause : (x : ℕ) → x < 324 → shapeOf (clauseIn x) ≡ OneOf (groupIn x)
+slot-clause x h =
+    let w = slot-place x h 0 (omega arith) in
+    let f = kindAt (x / 81) in
+    let g : IsGroup (groupIn x) = subst IsGroup (sym (slot-group (placeOf (groupIn x) 0) (w .0) f) ∙ ap groupIn (w .1)) (group-is (placeOf (groupIn x) 0) (w .0) f) in
+    ap shapeOf (sym (eqb→eq (shapeNumber (OneOf (groupIn x))) (clauseIn x) (all-iff 324 numberRight .0 numbers-right x h))) ∙ shape-number Extended (OneOf (groupIn x)) g tt .1
