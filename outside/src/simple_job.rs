@@ -1,7 +1,7 @@
-//! The job call by the simple loop, which the fast one of [`crate::plain_job`] replaced: the bench
-//! times the proved call beside it too, so that the gain shows. A place is a variable less 1. Decided
-//! places go on a trail, on which they wait to be looked at, with all places of their groups; the
-//! four groups of a place are found by arithmetic. Every trial is made.
+//! The job call by a simple loop: the bench times the proved call beside it too, so that it shows what
+//! the sums, the list and the known successes of [`crate::plain_job`] gain. A place is a variable less
+//! 1. Decided places go on a trail, on which they wait to be looked at, with all places of their
+//! groups; the four groups of a place are found by arithmetic. Every trial is made.
 
 use crate::grid;
 use crate::plain_job::check_order;
