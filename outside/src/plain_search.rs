@@ -3,7 +3,8 @@
 //! takes the unit closure over the extended set, and branches on the first open cell with its digits
 //! rising, so completions come in byte order. A branch is entered unless a test finds that it leaves
 //! nothing. The test first makes a plain attempt, a small tree that branches on the cell with the
-//! fewest digits left. Where that is not enough, each node of an attempt dives for a full grid; else
+//! fewest digits left. Where that is not enough, each node of an attempt looks for a house in which
+//! some cells have fewer digits left between them than they are; else it dives for a full grid; else
 //! it tries each place, those where a test has failed before first, as long as that decides a place
 //! more, notes what the trial decides, and branches on the group that promises the smallest tree. It
 //! starts again where that is too large. A full grid that it comes upon is kept as a guess, and a
@@ -104,7 +105,7 @@ impl Search {
     }
 
     /// Whether a state leaves nothing; else the guess is a full grid that it leaves. After the plain
-    /// attempt, each has a third more nodes than the one before.
+    /// attempt, each has twice the nodes of the one before.
     fn refuted(&mut self, state: &State) -> bool {
         let (mut nodes, mut plain) = (PLAIN, true);
         while self.closures < self.most_closures {
@@ -112,7 +113,7 @@ impl Search {
                 Attempt::Refuted(_) => return true,
                 Attempt::Full => return false,
                 Attempt::Spent if plain => (nodes, plain) = (12, false),
-                Attempt::Spent => nodes += nodes / 3,
+                Attempt::Spent => nodes *= 2,
             }
         }
         true
@@ -148,6 +149,9 @@ impl Search {
         let group = if plain {
             narrowest(state)
         } else {
+            if crowded(state) {
+                return Looked::Nothing;
+            }
             if self.dive(*state) {
                 return Looked::Full;
             }
@@ -226,6 +230,25 @@ impl Search {
         self.decided += if closed { state.decided - before } else { 1 };
         closed
     }
+}
+
+/// Whether some cells of a house have fewer digits left between them than they are. A choice of cells
+/// is a number with a bit for each, and so are the digits left in it.
+fn crowded(state: &State) -> bool {
+    let counts: [u32; 512] = std::array::from_fn(|n| n.count_ones());
+    (0..27).any(|house| {
+        let mut unions = [0u16; 512];
+        for (i, place) in places(CELLS + 9 * house).enumerate() {
+            let first = place / 9 * 9;
+            let left = (0..9).filter(|k| state.marks[first + k] != 2);
+            let digits = left.fold(0, |digits, k| digits | 1 << k);
+            let (known, more) = unions[..2 << i].split_at_mut(1 << i);
+            for (union, with) in known.iter().zip(more) {
+                *with = union | digits;
+            }
+        }
+        (0..512).any(|n| counts[usize::from(unions[n]) % 512] < counts[n])
+    })
 }
 
 /// The first open cell with the fewest digits left, or None where the state is full. A closed state

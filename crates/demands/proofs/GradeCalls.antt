@@ -13,11 +13,11 @@ use Rattle.grid.specs.declared.Refusal.{Refusal}
 use Rattle.grid.specs.declared.Checked.{Checked}
 use Rattle.grid.specs.declared.Checked.the-variants as check
 use Rattle.orders.specs.Order.{orderCheck}
-use Rattle.search.specs.Completions.{completions}
+use Rattle.completions.specs.Completions.{completions}
 use Rattle.grading.specs.Grade.{stages, rateFrom, Given, gradeBy, gradeOf, refused, gradeCall}
-use Rattle.demands.specs.Gradings.{Grading, IsGrading}
 use Rattle.grading.specs.declared.Rating.{Rating}
 use Rattle.grading.specs.declared.GradeAnswer.the-variants.{Graded, Refused}
+use Rattle.demands.specs.Gradings.{Grading, IsGrading}
 
 -- a refusal is no verdict
 refused-graded : {f : Refusal} {v t : ℕ} {a b : List ℕ} → _≡_ {A = Given} (Refused f, a) (Graded v t, b) → ⊥

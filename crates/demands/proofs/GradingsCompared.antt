@@ -17,21 +17,21 @@ use Rattle.clauses.specs.declared.ClauseSet.the-variants.{Minimal, Extended}
 use Rattle.closure.specs.Job.{End, solved, opened, stopped, contradiction, outcomeOf}
 use Rattle.orders.specs.Order.{orderCheck}
 use Rattle.orders.specs.Technique.{SetWithin}
-use Rattle.demands.specs.Jobs.{Ran, IsSolved, IsStopped}
 use Rattle.orders.specs.declared.technique.Technique.{Technique}
 use Rattle.inference.specs.declared.job.Outcome.the-variants.{Solved, Stopped}
-use Rattle.demands.proofs.Ends.{outcome-iff}
-use Rattle.demands.proofs.JobCalls.{job-some}
-use Rattle.demands.proofs.Jobs.{answers}
-use Rattle.search.specs.Completions.{Rising, completions}
+use Rattle.completions.specs.Completions.{Rising, completions}
+use Rattle.completions.proofs.Completions.{completions-in-order}
 use Rattle.grading.specs.Grade.{afterJob, rateFrom, stages, Given, gradeBy, gradeOf}
-use Rattle.demands.specs.Gradings.{Grading}
-use Rattle.demands.specs.DemandThree.{HasGivens, OfGradings}
 use Rattle.grading.specs.declared.Stage.{Stage}
 use Rattle.grading.specs.declared.Rating.{Rating}
 use Rattle.grading.specs.declared.GradeAnswer.the-variants.{Graded}
-use Rattle.search.proofs.Completions.{completions-in-order}
 use Rattle.grading.proofs.Grading.{jobAt}
+use Rattle.demands.specs.Jobs.{Ran, IsSolved, IsStopped}
+use Rattle.demands.proofs.Ends.{outcome-iff}
+use Rattle.demands.proofs.JobCalls.{job-some}
+use Rattle.demands.proofs.Jobs.{answers}
+use Rattle.demands.specs.Gradings.{Grading}
+use Rattle.demands.specs.DemandThree.{HasGivens, OfGradings}
 use Rattle.demands.proofs.JobsCompared.{of-jobs}
 
 -- what completes a grid completes one with fewer givens

@@ -26,8 +26,8 @@ use Rattle.clauses.proofs.Members.{givens-iff, given-literal}
 use Rattle.closure.specs.Job.{End, solved, opened, stopped, contradiction, jobEnd, countOf, outcomeOf}
 use Rattle.closure.proofs.Marks.{decided-some}
 use Rattle.orders.specs.Order.{orderCheck, defaultCeiling}
-use Rattle.search.specs.Completions.{completions}
-use Rattle.search.proofs.Completions.{completions-in-order}
+use Rattle.completions.specs.Completions.{completions}
+use Rattle.completions.proofs.Completions.{completions-in-order}
 use Rattle.grading.specs.Grade.{stages, afterJob, rateFrom, gradeBy, gradeOf, gradeCall}
 use Rattle.grading.specs.declared.Stage.{Stage}
 use Rattle.grading.specs.declared.GradeAnswer.the-variants.{Graded}

@@ -7,11 +7,11 @@ use Prim.Native.Nat.{ℕ, suc, min}
 use native.Mathlib.Omega.{arith}
 use lib.ListN.{length}
 use Rattle.grid.specs.Completion.{Legal}
-use Rattle.search.specs.Completions.{completions, Before, InOrder}
+use Rattle.completions.specs.Completions.{completions, Before, InOrder}
+use Rattle.completions.proofs.ByteOrder.{before-once}
+use Rattle.completions.proofs.Completions.{completions-in-order}
 use Rattle.search.specs.Search.{foundOf}
 use Rattle.demands.specs.Searches.{Reports}
-use Rattle.search.proofs.ByteOrder.{before-once}
-use Rattle.search.proofs.Completions.{completions-in-order}
 
 reports-list : (g : List ℕ) (bs : List (List ℕ)) → InOrder (Legal g) bs → Reports g (foundOf bs)
 unfolding foundOf

@@ -16,10 +16,10 @@ use Rattle.closure.specs.Job.{End, jobEnd, countOf}
 use Rattle.closure.proofs.Ceiling.{count-below}
 use Rattle.propagation.proofs.Literals.{index-place}
 use Rattle.inference.specs.Known.{Named, CompletionOk}
-use Rattle.search.specs.Completions.{completions}
+use Rattle.completions.specs.Completions.{completions}
+use Rattle.completions.proofs.Completions.{completions-in-order}
 use Rattle.search.specs.Search.{zeros, foundOf}
 use Rattle.search.specs.declared.find.Found.{Found}
-use Rattle.search.proofs.Completions.{completions-in-order}
 use Rattle.grading.specs.Grade.{stages, afterJob, rateFrom, MarksOf, Given, gradeBy, gradeOf}
 use Rattle.grading.specs.declared.Stage.{Stage}
 use Rattle.grading.specs.declared.Rating.{Rating}

@@ -13,7 +13,7 @@ use Rattle.clauses.specs.Models.{givens, truthOf}
 use Rattle.closure.specs.Job.{End, solved, opened, stopped, contradiction, jobEnd}
 use Rattle.orders.specs.Order.{orderCheck}
 use Rattle.orders.specs.Technique.{unitMinimal, unitExtended, trialsMinimal, trialsExtended}
-use Rattle.search.specs.Completions.{completions}
+use Rattle.completions.specs.Completions.{completions}
 use Rattle.search.specs.Search.{zeros}
 use Rattle.grading.specs.declared.Stage.{Stage}
 use Rattle.grading.specs.declared.Rating.{Rating}

@@ -1,5 +1,5 @@
 -- Laws of counting and of testing below a bound, and the pigeonhole on a square: n things that each have some of n places, where no
--- place has two things, have one place each, and each place has one thing.
+-- place has two things, have one place each, and each place has one thing; and so many of the things need as many places.
 -- Assumes nothing.
 use mathlib.Core.Path.{_≡_, refl, ap, sym, _∙_, subst}
 use mathlib.Core.Logic.{_↔_}
@@ -71,6 +71,11 @@ unfolding total
 total-add zero f g = refl
 total-add (suc n) f g = omega (arith, total-add n f g)
 
+total-most : (n : ℕ) (f g : ℕ → ℕ) → ((k : ℕ) → k < n → f k ≤ g k) → total n f ≤ total n g
+unfolding total
+total-most zero f g h = omega arith
+total-most (suc n) f g h = omega (arith, h n (omega arith), total-most n f g (λ k b. h k (omega arith)))
+
 -- by rows or by columns, the sum of a square is one
 turned : (n m : ℕ) (f : ℕ → ℕ → ℕ) → total n (λ i. total m (f i)) ≡ total m (λ j. total n (λ i. f i j))
 unfolding total
@@ -109,6 +114,13 @@ tally-bound n p = high (λ k. tick (p k)) n (λ i b. most (p i))
     most : (x : Bool) → tick x ≤ 1
     most true = omega arith
     most false = omega arith
+
+-- where things that are chosen have at least one place each, and only places that are chosen have a thing, and one each, no more things are
+-- chosen than places
+pub chosen-fit : (n : ℕ) (R : ℕ → ℕ → Bool) (S D : ℕ → Bool) → ((i : ℕ) → i < n → tick (S i) ≤ tally n (R i))
+    → ((j : ℕ) → j < n → tally n (λ i. R i j) ≤ tick (D j)) → tally n S ≤ tally n D
+chosen-fit n R S D some most =
+    omega (arith, total-most n (λ i. tick (S i)) (λ i. tally n (R i)) some, turned n n (λ i j. tick (R i j)), total-most n (λ j. tally n (λ i. R i j)) (λ j. tick (D j)) most)
 
 module _ (n : ℕ) (R : ℕ → ℕ → Bool) (some : (i : ℕ) → i < n → 1 ≤ tally n (R i)) (most : (j : ℕ) → j < n → tally n (λ i. R i j) ≤ 1) where
   pub square-rows : (i : ℕ) → i < n → tally n (R i) ≡ 1

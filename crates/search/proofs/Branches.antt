@@ -19,10 +19,11 @@ use Rattle.closure.specs.Closure.{Contradiction, With, UnitClosed}
 use Rattle.closure.specs.Marks.{has, IsMarks}
 use Rattle.propagation.specs.Steps.{ClosesTo}
 use Rattle.propagation.specs.declared.close.Reached.the-variants.{Decided}
-use Rattle.search.specs.Completions.{those, Before, InOrder}
-use Rattle.search.specs.Search.{isIn, left}
-use Rattle.search.proofs.ByteOrder.{in-order-same, in-order-as, in-order-none, in-order-those, in-order-append}
-use Rattle.search.proofs.Left.{Fits, Of, fixed, with-fits, clash-fits, closed-fits, left-in-order}
+use Rattle.completions.specs.Completions.{those, Before, InOrder}
+use Rattle.completions.specs.Left.{left}
+use Rattle.completions.proofs.ByteOrder.{in-order-same, in-order-as, in-order-none, in-order-those, in-order-append}
+use Rattle.completions.proofs.Left.{Fits, Of, fixed, with-fits, clash-fits, closed-fits, left-in-order}
+use Rattle.search.specs.Search.{isIn}
 
 -- the grids that the marks leave with one of the first d digits in a cell,
 abbrev pub below : List ℕ → ℕ → ℕ → List (List ℕ)

@@ -7,13 +7,13 @@ use borrow.Author.Tests.{eq-eqb, ne-eqb}
 use lib.ListN.{length}
 use Rattle.grid.specs.Refusals.{refusal, onAccepted, gridCheck}
 use Rattle.grid.specs.declared.Checked.{Checked}
-use Rattle.search.specs.Completions.{completions}
+use Rattle.completions.specs.Completions.{completions}
+use Rattle.completions.proofs.Completions.{completions-in-order}
 use Rattle.search.specs.Search.{foundOf}
 use Rattle.search.specs.Call.{Given, counted, refused, searchCall}
 use Rattle.search.specs.declared.find.Found.{Found}
 use Rattle.search.specs.declared.SearchAnswer.{SearchAnswer}
 use Rattle.search.specs.declared.SearchAnswer.the-variants.{Counted, Refused}
-use Rattle.search.proofs.Completions.{completions-in-order}
 use Rattle.search.proofs.Found.{found-long}
 
 module _ (g a b : List ℕ) where

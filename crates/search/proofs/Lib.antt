@@ -1,8 +1,5 @@
-pub mod ByteOrder
-pub mod Completions
 pub mod Found
 pub mod Marked
-pub mod Refuting
-pub mod Left
+pub mod Full
 pub mod Branches
 pub mod Calls

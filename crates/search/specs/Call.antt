@@ -6,7 +6,7 @@ use lib.Dec.{eqb}
 use lib.ListN.{length}
 use Rattle.grid.specs.Refusals.{refusal, onAccepted, gridCheck}
 use Rattle.grid.specs.declared.Refusal.{Refusal}
-use Rattle.search.specs.Completions.{completions}
+use Rattle.completions.specs.Completions.{completions}
 use Rattle.search.specs.Search.{foundOf}
 use Rattle.search.specs.declared.find.Found.{Found}
 use Rattle.search.specs.declared.SearchAnswer.{SearchAnswer}

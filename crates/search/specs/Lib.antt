@@ -1,3 +1,2 @@
-pub mod Completions
 pub mod Search
 pub mod Call

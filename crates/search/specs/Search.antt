@@ -1,24 +1,14 @@
 -- The search: what it finds, and what its marks say on the way.
-use mathlib.Core.Path.{_≡_}
-use mathlib.Core.Bool.{Bool, cond, not}
-use mathlib.Core.List.{List, []}
-use Prim.Native.Nat.{ℕ, suc, _+_, _*_, _≤_, _<_, min}
+use mathlib.Core.Bool.{Bool, not}
+use mathlib.Core.List.{List}
+use Prim.Native.Nat.{ℕ, _+_, _*_, min}
 use lib.Dec.{eqb}
 use lib.IntN.{pos}
 use lib.ListN.{length, getD, replicate}
 use Rattle.grid.specs.Counting.{tally, all, leastFrom}
-use Rattle.clauses.specs.Models.{truthOf, pick, completionOf}
-use Rattle.clauses.specs.declared.ClauseSet.the-variants.{Extended}
-use Rattle.closure.specs.Marks.{has, decided}
-use Rattle.propagation.specs.Steps.{StateOk}
-use Rattle.propagation.specs.declared.close.Reached.{Reached}
-use Rattle.propagation.specs.declared.close.Reached.the-variants.{Clash, Decided}
-use Rattle.search.specs.Completions.{those, completions}
+use Rattle.clauses.specs.Models.{pick, completionOf}
+use Rattle.closure.specs.Marks.{has}
 use Rattle.search.specs.declared.find.Found.{Found}
-use Rattle.search.specs.declared.branching.Looked.{Looked}
-use Rattle.search.specs.declared.branching.Looked.the-variants.{Nothing, Branch}
-use Rattle.search.specs.declared.refute.Tried.{Tried}
-use Rattle.search.specs.declared.refute.Tried.the-variants.{Refuted, Full, Spent}
 
 -- 81 zero bytes: what stands for no completion
 abbrev pub zeros : List ℕ
@@ -51,34 +41,3 @@ digitIn m c = 49 + pick 9 (isIn m c)
 -- the digit bytes that are marked
 unfoldable pub digitsIn : List ℕ → List ℕ
 digitsIn m = completionOf (λ v. has m (pos v))
-
--- no mark of m says otherwise than the digits b
-unfoldable pub agrees : List ℕ → List ℕ → Bool
-agrees m b = all 729 (λ k. cond (truthOf b (suc k)) (not (eqb (getD m k 0) 2)) (not (eqb (getD m k 0) 1)))
-
--- what the marks leave: the legal full grids that agree with them, in byte order
-unfoldable pub left : List ℕ → List (List ℕ)
-left m = those (agrees m) (completions [])
-
--- What trials may do to marks: a state is left, no fewer variables are decided, and what was left is left.
-pub record Weighs (m m' a' : List ℕ) (d' : ℕ) : Type 0 where
-  pub state : StateOk Extended m' a' d'
-  pub more : decided m ≤ decided m'
-  pub same : left m ≡ left m'
-
--- they show that nothing is left, or leave such marks, with their sums and the number that they decide
-abbrev pub WeighedOk : List ℕ → List ℕ → List ℕ → Reached → Type 0
-WeighedOk m m' a' Clash = left m ≡ []
-WeighedOk m m' a' (Decided d) = Weighs m m' a' d
-
--- what a look at marks before a branch promises: where it says so, they leave nothing; where it names a group, the marks are such marks
-abbrev pub LookedOk : List ℕ → List ℕ → List ℕ → Looked → Type 0
-LookedOk m m' a' Nothing = left m ≡ []
-LookedOk m m' a' Looked.Full = Unit {0}
-LookedOk m m' a' (Branch d i) = Weighs m m' a' d × (i < 324)
-
--- what an attempt to refute marks promises: where it does, they leave nothing
-abbrev pub TriedOk : List ℕ → Tried → Type 0
-TriedOk m (Refuted n) = left m ≡ []
-TriedOk m Full = Unit {0}
-TriedOk m Spent = Unit {0}

@@ -1,10 +1,10 @@
 // The complete search: branching on the first open cell, digits rising, so that completions are found in byte order. A branch is entered
 // unless a test refutes it; of that test only this is used, that what it refutes leaves nothing.
-use crate::refute::refuted;
 use clauses::ClauseSet;
 use propagation::close::Reached;
 use propagation::close::close_givens;
 use propagation::close::close_true;
+use refutation::refute::refuted;
 ghost use mathlib.Core.Path.{_≡_};
 ghost use mathlib.Core.Bool.{true};
 ghost use mathlib.Core.List.{List, _++_};
@@ -12,8 +12,9 @@ ghost use Prim.Native.Nat.{ℕ, _<_};
 ghost use lib.ListN.{length};
 ghost use Rattle.clauses.specs.declared.ClauseSet.the-variants.{Extended};
 ghost use Rattle.propagation.specs.Steps.{StateOk};
-ghost use Rattle.search.specs.Completions.{completions};
-ghost use Rattle.search.specs.Search.{foundOf, isOpen, firstOpen, digitIn, digitsIn, left};
+ghost use Rattle.completions.specs.Completions.{completions};
+ghost use Rattle.completions.specs.Left.{left};
+ghost use Rattle.search.specs.Search.{foundOf, isOpen, firstOpen, digitIn, digitsIn};
 
 // What a search has found: how many completions, counted as far as 2, and the smallest two, zero bytes where there is none.
 pub struct Found {

@@ -3,11 +3,7 @@
 //     search          the search call: none, one or several completions, and the smallest two
 //     SearchAnswer    what it answers
 //     find            what the search finds, in byte order
-//     refute          a test whether marks leave nothing
-//     branching       where the test branches
-mod branching;
 pub mod find;
-mod refute;
 
 use crate::find::find;
 use grid::Checked;

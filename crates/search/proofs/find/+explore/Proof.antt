@@ -17,10 +17,11 @@ use Rattle.propagation.specs.Steps.{ClosesTo}
 use Rattle.propagation.specs.declared.close.Reached.{Reached}
 use Rattle.propagation.specs.declared.close.Reached.the-variants.{Clash, Decided}
 use Rattle.propagation.proofs.close.close_true.Reads as close-true-reads
-use Rattle.search.specs.Search.{zeros, foundOf, isIn, isOpen, openCells, firstOpen, left}
+use Rattle.completions.specs.Left.{left}
+use Rattle.search.specs.Search.{zeros, foundOf, isIn, isOpen, openCells, firstOpen}
 use Rattle.search.proofs.Found.{two-first}
 use Rattle.search.proofs.Marked.{closed-some, open-fewer}
-use Rattle.search.proofs.Left.{full-left}
+use Rattle.search.proofs.Full.{full-left}
 use Rattle.search.proofs.Branches.{below, above, below-none, below-all, below-above, branch-none, branch-left}
 use borrow.Fn.Kinds.{In}
 use borrow.Fn.PlainCycle.{Measures, is, falls, and}

@@ -8,9 +8,10 @@ use Rattle.clauses.specs.declared.ClauseSet.the-variants.{Extended}
 use Rattle.propagation.specs.Steps.{ClosesTo}
 use Rattle.propagation.specs.declared.close.Reached.{Reached}
 use Rattle.propagation.specs.declared.close.Reached.the-variants.{Clash, Decided}
-use Rattle.search.specs.Completions.{completions}
-use Rattle.search.specs.Search.{foundOf, left}
-use Rattle.search.proofs.Left.{start-none, start-left}
+use Rattle.completions.specs.Completions.{completions}
+use Rattle.completions.specs.Left.{left}
+use Rattle.completions.proofs.Left.{start-none, start-left}
+use Rattle.search.specs.Search.{foundOf}
 use Rattle.search.proofs.find.find.Statement.{statement}
 use Rattle.search.proofs.find.find.Tie as tie
 

@@ -1,0 +1,2 @@
+pub mod Crowding
+pub mod Refuting
