@@ -11,11 +11,11 @@ use Rattle.clauses.specs.Models.{givens}
 use Rattle.closure.specs.Job as job
 use Rattle.closure.specs.Job.{solved, opened, stopped, contradiction, countOf, marksOf}
 use Rattle.closure.proofs.Ceiling.{count-below}
-use Rattle.inference.specs.Call.{Given, finished}
-use Rattle.inference.specs.Steps.{endOf}
-use Rattle.inference.specs.declared.job.JobAnswer.{JobAnswer}
 use Rattle.orders.specs.declared.technique.Technique.{Technique}
-use Rattle.inference.specs.declared.trial.End.{End}
+use Rattle.trials.specs.Steps.{endOf}
+use Rattle.trials.specs.declared.trial.End.{End}
+use Rattle.inference.specs.Call.{Given, finished}
+use Rattle.inference.specs.declared.job.JobAnswer.{JobAnswer}
 use Rattle.batch.specs.Call.{jobEndOf, numbersOf}
 use Rattle.batch.specs.Parts.{Told, Filled}
 

@@ -5,8 +5,8 @@ use Prim.Native.Nat.{ℕ, _+_, _*_, _≤_}
 use lib.ListN.{length}
 use Rattle.closure.specs.Job as job
 use Rattle.closure.specs.Job.{countOf, marksOf, outcomeOf}
-use Rattle.inference.specs.Steps.{endOf}
-use Rattle.inference.specs.declared.trial.End.{End}
+use Rattle.trials.specs.Steps.{endOf}
+use Rattle.trials.specs.declared.trial.End.{End}
 use Rattle.batch.specs.Call.{gridsIn, numbersOf, Done}
 
 -- the lengths of what is lent: at most 64 grids, and 729 marks and two numbers a grid

@@ -8,16 +8,16 @@ use grid::Refusal;
 use grid::first_bad_byte;
 use inference::job::finish;
 use inference::job::run;
-use inference::trial::End;
 use orders::order::check_order;
 use orders::technique::Numbered;
 use orders::technique::Technique;
+use trials::trial::End;
 ghost use mathlib.Core.Path.{_≡_};
 ghost use Prim.Native.Nat.{_-_, _≤_};
 ghost use lib.ListN.{length};
 ghost use Rattle.grid.specs.Refusals.{refusal};
 ghost use Rattle.grid.specs.declared.Checked.the-variants.{Refused};
-ghost use Rattle.inference.specs.Steps.{Literals};
+ghost use Rattle.trials.specs.Steps.{Literals};
 ghost use Rattle.batch.specs.Call.{isBatch, lentCheck, bytesCheck, jobEndOf, jobsOf, batchCall};
 ghost use Rattle.batch.specs.Parts.{Lent, Told, Filled, AllFilled};
 

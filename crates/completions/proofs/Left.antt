@@ -74,6 +74,14 @@ left-in-order m i =
     (in-order-those (agrees m) (Legal []) (completions []) (completions-in-order []))
     (λ b. let a = agrees-iff m i b in ((λ w. record { legal = w .0; keeps = a .0 (w .1) }), λ f. (f .legal, a .1 (f .keeps))))
 
+-- marks that no grid fits leave nothing
+pub unfit-left : (m : List ℕ) → IsMarks m → ((b : List ℕ) → Fits (Of m) b → ⊥) → left m ≡ []
+unfit-left m i n = in-order-same (Fits (Of m)) (Fits (Of m)) (left m) [] (left-in-order m i) (in-order-none (Fits (Of m)) n) (λ b. ((λ f. f), λ f. f))
+
+-- of marks that a test does not refute it promises nothing
+pub not-refuted : {A : Type 0} → false ≡ true → A
+not-refuted e = absurd (subst (λ b. T (not b)) e tt)
+
 module _ (G : ℤ → Type 0) where
   -- a grid that fits is a model,
   pub model : (b : List ℕ) → Fits G b → (c : Clause) → List·Memᴰ c cs → Satisfies (truthOf b) c

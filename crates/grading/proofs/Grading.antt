@@ -14,8 +14,8 @@ use Rattle.clauses.specs.Literal.{Literal}
 use Rattle.clauses.specs.Models.{givens, holds, truthOf}
 use Rattle.closure.specs.Job.{End, jobEnd, countOf}
 use Rattle.closure.proofs.Ceiling.{count-below}
-use Rattle.propagation.proofs.Literals.{index-place}
-use Rattle.inference.specs.Known.{Named, CompletionOk}
+use Rattle.worklist.proofs.Literals.{index-place}
+use Rattle.trials.specs.Known.{Named, CompletionOk}
 use Rattle.completions.specs.Completions.{completions}
 use Rattle.completions.proofs.Completions.{completions-in-order}
 use Rattle.search.specs.Search.{zeros, foundOf}

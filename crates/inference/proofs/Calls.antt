@@ -12,8 +12,8 @@ use Rattle.grid.specs.declared.Checked.{Checked}
 use Rattle.grid.specs.declared.Checked.the-variants as check
 use Rattle.orders.specs.Order.{orderCheck}
 use Rattle.orders.specs.Technique.{techniqueOf, onKnown}
-use Rattle.inference.specs.Call.{jobOf, refused, jobCall}
 use Rattle.orders.specs.declared.technique.Numbered.{Numbered}
+use Rattle.inference.specs.Call.{jobOf, refused, jobCall}
 
 -- the call by what its checks say
 module _ (g : List ℕ) (n : ℕ) (o : List ℤ) (c : ℕ) (m : List ℕ) where

@@ -13,11 +13,11 @@ use Rattle.closure.specs.Marks.{blank}
 use Rattle.closure.specs.Job.{End, solved, opened, stopped, contradiction, jobEnd}
 use Rattle.orders.specs.Order.{orderCheck}
 use Rattle.orders.specs.Technique.{techniqueOf, onKnown}
+use Rattle.orders.specs.declared.technique.Technique.{Technique}
 use Rattle.inference.specs.declared.job.JobAnswer.{JobAnswer}
 use Rattle.inference.specs.declared.job.JobAnswer.the-variants.{Finished, Refused}
 use Rattle.inference.specs.declared.job.Outcome.{Outcome}
 use Rattle.inference.specs.declared.job.Outcome.the-variants.{Solved, Open, Stopped, Contradiction}
-use Rattle.orders.specs.declared.technique.Technique.{Technique}
 
 -- 01's numbers of the outcomes
 abbrev pub outcomeNumber : Outcome → ℕ

@@ -1,3 +1,1 @@
-pub mod Known
-pub mod Steps
 pub mod Call

@@ -1,8 +1,4 @@
 // The job call: the unit closure of a grid's givens, then trials, after the checks of what is lent.
-use crate::trial::End;
-use crate::trial::Ended;
-use crate::trial::State;
-use crate::trial::passes;
 use grid::Checked;
 use grid::Refusal;
 use grid::check_grid;
@@ -11,15 +7,19 @@ use orders::technique::Numbered;
 use orders::technique::Technique;
 use propagation::close::Reached;
 use propagation::close::close_givens;
+use trials::trial::End;
+use trials::trial::Ended;
+use trials::trial::State;
+use trials::trial::passes;
 ghost use mathlib.Core.Path.{_≡_};
 ghost use lib.ListN.{length};
 ghost use Rattle.grid.specs.Refusals.{refusal};
 ghost use Rattle.clauses.specs.Clauses.{clausesOf};
 ghost use Rattle.clauses.specs.Models.{givens};
 ghost use Rattle.closure.specs.Job.{jobEnd};
+ghost use Rattle.trials.specs.Known.{CompletionOk};
+ghost use Rattle.trials.specs.Steps.{endOf, Literals};
 ghost use Rattle.inference.specs.Call.{finished, jobCall};
-ghost use Rattle.inference.specs.Known.{CompletionOk};
-ghost use Rattle.inference.specs.Steps.{endOf, Literals};
 ghost use Rattle.inference.specs.declared.job.JobAnswer.the-variants.{Refused};
 
 // How a job ends.

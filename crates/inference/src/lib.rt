@@ -1,6 +1,4 @@
-// Inference: trials and the job call.
+// Inference: the job call.
 //
-//     trial          trials along an order, in passes, under a ceiling
-//     job            the job call: a grid's givens, then trials, with its refusals
+//     job    a grid's givens, then trials, with the refusals of a job call
 pub mod job;
-pub mod trial;

@@ -25,18 +25,18 @@ use Rattle.closure.proofs.Closure.{contradiction-mono}
 use Rattle.closure.proofs.Marks.{has-single, has-mark, is-marks-mark, or-iff}
 use Rattle.closure.proofs.ClauseSets.{well-formed}
 use Rattle.closure.proofs.Propagation.{InMarks, unit-closure-ok, unit-closure-marks, closes-same, closes-unique, givens-closed}
-use Rattle.propagation.specs.Groups.{groupAt, groupIn, indexAt, kindAt, numberOf, slotAt, PairKind}
-use Rattle.propagation.specs.Sums.{InSlots, sumOf}
-use Rattle.propagation.specs.Acting.{True, False, Undecided, Ready, Struck, Stepped}
+use Rattle.worklist.specs.Groups.{groupAt, groupIn, indexAt, kindAt, numberOf, slotAt, PairKind}
+use Rattle.worklist.specs.Sums.{InSlots, sumOf}
+use Rattle.worklist.specs.Acting.{True, False, Undecided, Ready, Struck, Stepped}
+use Rattle.worklist.specs.declared.acting.Work.{Work}
+use Rattle.worklist.proofs.Slots.{number-at, at-number, number-below, index-at, place-at, group-same, slot-group, slot-in, place-once}
+use Rattle.worklist.proofs.Sums.{sum-small, sum-large, byte-true}
+use Rattle.worklist.proofs.Rules.{closed-strikes, groups-closed}
+use Rattle.worklist.proofs.Literals.{has-set}
+use Rattle.worklist.proofs.Striking.{signs-differ}
 use Rattle.propagation.specs.Steps.{MarksOk, StateOk, StateLeft, answerOf, ClosesTo}
-use Rattle.propagation.specs.declared.acting.Work.{Work}
 use Rattle.propagation.specs.declared.close.Reached.{Reached}
 use Rattle.propagation.specs.declared.close.Reached.the-variants.{Clash, Decided}
-use Rattle.propagation.proofs.Slots.{number-at, at-number, number-below, index-at, place-at, group-same, slot-group, slot-in, place-once}
-use Rattle.propagation.proofs.Sums.{sum-small, sum-large, byte-true}
-use Rattle.propagation.proofs.Rules.{closed-strikes, groups-closed}
-use Rattle.propagation.proofs.Literals.{has-set}
-use Rattle.propagation.proofs.Striking.{signs-differ}
 use Rattle.propagation.proofs.Looking.{slot-lasts}
 
 -- the answer for some literals is that for others, where each are of the closure of the other

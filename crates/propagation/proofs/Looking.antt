@@ -19,14 +19,15 @@ use Rattle.closure.specs.Marks.{has}
 use Rattle.closure.proofs.Sets.{least-given, least-within}
 use Rattle.closure.proofs.Closure.{contradiction-mono}
 use Rattle.closure.proofs.Marks.{decided-bounded}
-use Rattle.propagation.specs.Groups.{groupIn, clauseIn}
-use Rattle.propagation.specs.Sums.{InSlots, sumOf}
-use Rattle.propagation.specs.Acting.{AllBut, Listed, At, Undecided, Ready, Struck, Follows, Clashes, Stepped, Less}
-use Rattle.propagation.specs.declared.acting.Work.{Work}
-use Rattle.propagation.proofs.Slots.{nines-below, slot-place, by-slot, clause-once}
-use Rattle.propagation.proofs.Sums.{sum-small}
-use Rattle.propagation.proofs.Rules.{Lasts, closed-lasts}
-use Rattle.propagation.proofs.Literals.{has-set}
+use Rattle.worklist.specs.Groups.{groupIn, clauseIn}
+use Rattle.worklist.specs.Sums.{InSlots, sumOf}
+use Rattle.worklist.specs.Acting.{AllBut, Listed, At, Undecided, Ready, Struck, Follows, Clashes, Stepped}
+use Rattle.worklist.specs.declared.acting.Work.{Work}
+use Rattle.worklist.proofs.Slots.{nines-below, slot-place, by-slot, clause-once}
+use Rattle.worklist.proofs.Sums.{sum-small}
+use Rattle.worklist.proofs.Rules.{Lasts, closed-lasts}
+use Rattle.worklist.proofs.Literals.{has-set}
+use Rattle.propagation.specs.Looks.{Less}
 
 pub slots-below : (s : ClauseSet) (x : ℕ) → InSlots s x → x < 324
 slots-below s x h = omega (arith, nines-below s)

@@ -1,4 +1,2 @@
-pub mod Groups
-pub mod Sums
-pub mod Acting
+pub mod Looks
 pub mod Steps

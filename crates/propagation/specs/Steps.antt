@@ -8,7 +8,7 @@ use Rattle.clauses.specs.declared.ClauseSet.{ClauseSet}
 use Rattle.closure.specs.Closure.{UnitClosed}
 use Rattle.closure.specs.Marks.{has, decided, IsMarks}
 use Rattle.closure.specs.Propagation.{Answer, clash, closed, Closes}
-use Rattle.propagation.specs.Sums.{SumsOk}
+use Rattle.worklist.specs.Sums.{SumsOk}
 use Rattle.propagation.specs.declared.close.Reached.{Reached}
 use Rattle.propagation.specs.declared.close.Reached.the-variants.{Clash, Decided}
 

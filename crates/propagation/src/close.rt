@@ -1,13 +1,13 @@
 // Unit closures: of marks with one literal more, and of a grid's givens. The clauses that are listed are looked at one by one, until none is
 // left or one is a contradiction.
-use crate::acting::Work;
-use crate::acting::affirm;
-use crate::acting::assign;
-use crate::groups::slot_of;
-use crate::groups::wide;
 use clauses::ClauseSet;
 use clauses::literal;
 use grid::legal::is_digit;
+use worklist::acting::Work;
+use worklist::acting::affirm;
+use worklist::acting::assign;
+use worklist::groups::slot_of;
+use worklist::groups::wide;
 ghost use mathlib.Core.Path.{_≡_};
 ghost use mathlib.Core.List.{List·Memᴰ};
 ghost use Prim.Native.Nat.{suc, _<_};
@@ -19,8 +19,9 @@ ghost use Rattle.clauses.specs.Models.{givens};
 ghost use Rattle.clauses.specs.declared.ClauseSet.the-variants.{Extended};
 ghost use Rattle.closure.specs.Closure.{With};
 ghost use Rattle.closure.specs.Marks.{has, isDecided, blank};
-ghost use Rattle.propagation.specs.Acting.{Ready, Struck, LookedOk};
-ghost use Rattle.propagation.specs.Sums.{SumsOk};
+ghost use Rattle.worklist.specs.Acting.{Ready, Struck};
+ghost use Rattle.worklist.specs.Sums.{SumsOk};
+ghost use Rattle.propagation.specs.Looks.{LookedOk};
 ghost use Rattle.propagation.specs.Steps.{StateOk, ClosesTo};
 
 // A contradiction, or how many variables are decided.

@@ -1,2 +1,1 @@
 pub mod Refuting
-pub mod Crowds

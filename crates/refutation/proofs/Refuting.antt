@@ -23,13 +23,13 @@ use Rattle.closure.specs.Sets.{Least}
 use Rattle.closure.specs.Closure.{Contradiction, With, UnitClosed}
 use Rattle.closure.specs.Marks.{has, decided, IsMarks}
 use Rattle.closure.proofs.Marks.{decided-rises, decided-grows}
+use Rattle.worklist.proofs.Sums.{byte-true, false-byte}
 use Rattle.propagation.specs.Steps.{StateOk, ClosesTo}
 use Rattle.propagation.specs.declared.close.Reached.{Reached}
 use Rattle.propagation.specs.declared.close.Reached.the-variants.{Clash, Decided}
-use Rattle.propagation.proofs.Sums.{byte-true, false-byte}
 use Rattle.completions.specs.Left.{left}
-use Rattle.completions.proofs.ByteOrder.{in-order-same, in-order-none}
-use Rattle.completions.proofs.Left.{Fits, Of, model, with-fits, clash-fits, closed-fits, left-in-order}
+use Rattle.completions.proofs.ByteOrder.{in-order-same}
+use Rattle.completions.proofs.Left.{Fits, Of, model, with-fits, clash-fits, closed-fits, left-in-order, unfit-left}
 use Rattle.refutation.specs.Refuting.{Weighs, WeighedOk}
 
 -- no grid that fits the marks has the place true
@@ -54,17 +54,13 @@ module _ (m : List ℕ) (p : ℕ) where
   closed-more {t} s h n = decided-grows m t (λ l y. s .answer .holds l (inl y)) (pos (suc p)) h (s .answer .holds (pos (suc p)) (inr refl)) (λ y. n (byte-true m p y))
 
 module _ (m : List ℕ) (i : IsMarks m) where
-  -- marks that no grid fits leave nothing
-  pub unfit-left : ((b : List ℕ) → Fits (Of m) b → ⊥) → left m ≡ []
-  unfit-left n = in-order-same (Fits (Of m)) (Fits (Of m)) (left m) [] (left-in-order m i) (in-order-none (Fits (Of m)) n) (λ b. ((λ f. f), λ f. f))
-
   -- a place that is refuted becomes false
   module _ (p : ℕ) (r : Refuted m p) where
     struck : (b : List ℕ) → Fits (Of m) b → Fits (With (has m) (negsuc p)) b
     struck b f = with-fits m (negsuc p) b .1 (f, not-T (truthOf b (suc p)) (r b f))
 
     pub struck-weighs : (t a : List ℕ) (r : Reached) → ClosesTo Extended (With (has m) (negsuc p)) t a r → WeighedOk m t a r
-    struck-weighs t a Clash s = unfit-left (λ b f. clash-fits (With (has m) (negsuc p)) (s .answer) b (struck b f))
+    struck-weighs t a Clash s = unfit-left m i (λ b f. clash-fits (With (has m) (negsuc p)) (s .answer) b (struck b f))
     struck-weighs t a (Decided d) s =
         record {
           state = s .state;
@@ -76,14 +72,10 @@ module _ (m : List ℕ) (i : IsMarks m) where
 
   -- a group all of whose places are refuted
   pub group-refutes : (g : Group) → IsGroup g → ((j : ℕ) → j < 9 → Refuted m (placeOf g j)) → left m ≡ []
-  group-refutes g h r = unfit-left λ b f.
+  group-refutes g h r = unfit-left m i λ b f.
       let s = model (Of m) b f (clauseOf (OneOf g)) (member-iff Extended (clauseOf (OneOf g)) .1 (OneOf g, h, tt, refl)) in
       let w = tally-find (trueIn (truthOf b) g) 9 (one-of-iff (truthOf b) g .0 s) in
       r (w .0) (w .1) b f (w .2)
-
--- marks that are not refuted are promised nothing
-pub not-refuted : {A : Type 0} → false ≡ true → A
-not-refuted e = absurd (subst (λ b. T (not b)) e tt)
 
 -- Trials may leave marks as they are, and what they may do once they may do again.
 pub weighs-none : {m a : List ℕ} {d : ℕ} → StateOk Extended m a d → Weighs m m a d

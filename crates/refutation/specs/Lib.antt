@@ -1,2 +1,1 @@
-pub mod Crowding
 pub mod Refuting

@@ -2,11 +2,11 @@
 // smallest. A plain look takes the cell with the fewest digits left. A survey first dives for a full grid; then each place is tried, and what the
 // trial decides tells how large the tree below it may be. Marks go with the sums of their clauses; the list is lent to the closures for their
 // work alone.
-use crate::crowding::crowded;
 use clauses::ClauseSet;
 use clauses::Group;
 use clauses::decode::place;
 use clauses::literal;
+use crowding::crowded;
 use propagation::close::Reached;
 use propagation::close::close_true;
 use propagation::close::close_with;

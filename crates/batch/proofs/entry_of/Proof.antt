@@ -2,7 +2,7 @@
 use mathlib.Core.Path.{_≡_, refl}
 use Prim.Native.Nat.{ℕ}
 use borrow.Author.Needs.{needs}
-use Rattle.inference.specs.declared.trial.End.{End}
+use Rattle.trials.specs.declared.trial.End.{End}
 use Rattle.batch.specs.Parts.{Told}
 use Rattle.batch.proofs.entry_of.Statement.{statement}
 use Rattle.batch.proofs.entry_of.Tie as tie

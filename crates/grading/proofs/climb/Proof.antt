@@ -10,9 +10,9 @@ use lib.ListN.{drop}
 use mir.Syntax.{w32}
 use mir.Val.{Fits}
 use Rattle.closure.specs.Job as job
-use Rattle.inference.specs.Steps.{endOf}
-use Rattle.inference.specs.declared.trial.End.{End}
-use Rattle.inference.specs.declared.trial.End.the-variants.{Solved, Open, Stopped, Contradiction}
+use Rattle.trials.specs.Steps.{endOf}
+use Rattle.trials.specs.declared.trial.End.{End}
+use Rattle.trials.specs.declared.trial.End.the-variants.{Solved, Open, Stopped, Contradiction}
 use Rattle.grading.specs.declared.Stage.{Stage}
 use Rattle.grading.specs.Grade.{stages, afterJob, rateFrom}
 use Rattle.grading.proofs.Grading.{jobAt, rate-next, rate-none, count-left}

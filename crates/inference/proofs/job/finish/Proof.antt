@@ -3,10 +3,10 @@ use mathlib.Core.Path.{_≡_, refl, ap, sym, _∙_}
 use mathlib.Core.List.{List}
 use Prim.Native.Nat.{ℕ}
 use borrow.Author.Needs.{needs}
+use Rattle.trials.specs.Steps.{endOf}
+use Rattle.trials.specs.declared.trial.End.{End}
 use Rattle.inference.specs.Call.{Given, finished}
-use Rattle.inference.specs.Steps.{endOf}
 use Rattle.inference.specs.declared.job.JobAnswer.{JobAnswer}
-use Rattle.inference.specs.declared.trial.End.{End}
 use Rattle.inference.proofs.job.finish.Statement.{statement}
 use Rattle.inference.proofs.job.finish.Tie as tie
 

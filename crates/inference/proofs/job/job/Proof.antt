@@ -7,14 +7,14 @@ use borrow.Author.Needs.{needs}
 use lib.ListN.{length}
 use Rattle.grid.specs.Refusals.{gridCheck}
 use Rattle.grid.specs.declared.Checked.the-variants as check
+use Rattle.grid.proofs.Completion.{accepted-long}
 use Rattle.orders.specs.Order.{orderCheck}
 use Rattle.orders.specs.Technique.{techniqueOf}
+use Rattle.orders.specs.declared.technique.Numbered.the-variants.{Known}
+use Rattle.orders.proofs.Orders.{accepted-order}
 use Rattle.inference.specs.Call.{Given, finished, jobOf}
 use Rattle.inference.specs.declared.job.JobAnswer.{JobAnswer}
-use Rattle.orders.specs.declared.technique.Numbered.the-variants.{Known}
-use Rattle.grid.proofs.Completion.{accepted-long}
 use Rattle.inference.proofs.Calls.{call-short, call-checked}
-use Rattle.orders.proofs.Orders.{accepted-order}
 use Rattle.inference.proofs.job.job.Statement.{statement}
 use Rattle.inference.proofs.job.job.Tie as tie
 

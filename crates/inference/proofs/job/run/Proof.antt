@@ -1,6 +1,6 @@
 -- Nothing is known to succeed.
 use borrow.Author.Needs.{needs}
-use Rattle.inference.proofs.Knowing.{completion-none}
+use Rattle.trials.proofs.Knowing.{completion-none}
 use Rattle.inference.proofs.job.run.Statement.{statement}
 use Rattle.inference.proofs.job.run.Tie as tie
 

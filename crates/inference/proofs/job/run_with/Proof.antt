@@ -9,9 +9,9 @@ use Rattle.closure.specs.Marks.{blank}
 use Rattle.closure.specs.Propagation.{closed, bind, join, unitClosure}
 use Rattle.propagation.specs.Steps.{StateOk, answerOf}
 use Rattle.propagation.proofs.Closing.{givens-computed, closes-answer, closes-state}
-use Rattle.inference.specs.Known.{PossibleOk}
-use Rattle.inference.proofs.Knowing.{completion-possible}
-use Rattle.inference.proofs.Walking.{start-clash, start-full, start-trials, start-open}
+use Rattle.trials.specs.Known.{PossibleOk}
+use Rattle.trials.proofs.Knowing.{completion-possible}
+use Rattle.trials.proofs.Walking.{start-clash, start-full, start-trials, start-open}
 use Rattle.inference.proofs.job.run_with.Statement.{statement}
 use Rattle.inference.proofs.job.run_with.Tie as tie
 

@@ -15,9 +15,9 @@ use Rattle.clauses.proofs.Signed.{returned}
 use Rattle.closure.specs.Closure.{With, UnitClosed}
 use Rattle.closure.specs.Marks.{has, isDecided}
 use Rattle.closure.proofs.Sets.{least-given}
+use Rattle.worklist.proofs.Literals.{byte-open}
+use Rattle.worklist.proofs.Sums.{true-byte, false-byte}
 use Rattle.propagation.specs.Steps.{ClosesTo}
-use Rattle.propagation.proofs.Literals.{byte-open}
-use Rattle.propagation.proofs.Sums.{true-byte, false-byte}
 use Rattle.propagation.proofs.close.close_true.Statement.{statement}
 use Rattle.propagation.proofs.close.close_true.Tie as tie
 

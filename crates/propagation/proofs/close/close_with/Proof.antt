@@ -13,9 +13,9 @@ use lib.ListN.{set}
 use lib.Signed.{ltZ}
 use Rattle.clauses.specs.Literal.{markIndex}
 use Rattle.clauses.proofs.Signed.{read, test-of}
-use Rattle.propagation.specs.Acting.{Ready, Undecided, Struck, Stepped}
-use Rattle.propagation.specs.declared.acting.Work.{Work}
-use Rattle.propagation.proofs.Literals.{placeAt, byteOf, place-below, index-place, open-byte, has-set}
+use Rattle.worklist.specs.Acting.{Ready, Undecided, Struck, Stepped}
+use Rattle.worklist.specs.declared.acting.Work.{Work}
+use Rattle.worklist.proofs.Literals.{placeAt, byteOf, place-below, index-place, open-byte, has-set}
 use Rattle.propagation.proofs.Looking.{stepped-none}
 use Rattle.propagation.proofs.Closing.{state-ready, closed-struck, struck-false, closes-begun}
 use Rattle.propagation.proofs.close.close_with.Statement.{statement}

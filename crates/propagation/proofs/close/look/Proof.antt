@@ -4,7 +4,7 @@ use Prim.Native.Nat.{ℕ, _-_, _≤_, _<_}
 use native.Mathlib.Omega.{arith}
 use borrow.Author.Needs.{needs}
 use lib.ListN.{getD, set}
-use Rattle.propagation.specs.Acting.{Stepped, Struck, Undecided, Ready, At}
+use Rattle.worklist.specs.Acting.{Stepped, Struck, Undecided, Ready, At}
 use Rattle.propagation.proofs.Looking.{rest, slot, slot-small, is-clause, last-below, look-nothing, look-clash, place-left, look-place}
 use Rattle.propagation.proofs.close.look.Statement.{statement}
 use Rattle.propagation.proofs.close.look.Tie as tie

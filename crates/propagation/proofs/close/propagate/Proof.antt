@@ -5,7 +5,8 @@ use Prim.Native.Nat.{_+_, _*_, _-_}
 use native.Mathlib.Omega.{arith}
 use borrow.Author.Needs.{needs}
 use Rattle.closure.proofs.Marks.{decided-bounded}
-use Rattle.propagation.specs.Acting.{Stepped, Less, LookedOk}
+use Rattle.worklist.specs.Acting.{Stepped}
+use Rattle.propagation.specs.Looks.{Less, LookedOk}
 use Rattle.propagation.proofs.Looking.{stepped-none, stepped-more, clashes-back}
 use Rattle.propagation.proofs.Closing.{stepped-closes}
 use Rattle.propagation.proofs.close.propagate.Statement.{statement}

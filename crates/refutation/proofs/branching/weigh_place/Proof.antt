@@ -16,10 +16,10 @@ use Rattle.clauses.proofs.Signed.{returned}
 use Rattle.closure.specs.Closure.{With}
 use Rattle.closure.specs.Marks.{has, isDecided}
 use Rattle.closure.proofs.Marks.{decided-rises}
+use Rattle.worklist.proofs.Literals.{byte-open}
 use Rattle.propagation.specs.Steps.{ClosesTo}
 use Rattle.propagation.specs.declared.close.Reached.{Reached}
 use Rattle.propagation.specs.declared.close.Reached.the-variants.{Clash, Decided}
-use Rattle.propagation.proofs.Literals.{byte-open}
 use Rattle.refutation.proofs.Refuting.{Refuted, clash-refutes, struck-weighs, weighs-none}
 use Rattle.refutation.proofs.branching.weigh_place.Statement.{statement}
 use Rattle.refutation.proofs.branching.weigh_place.Tie as tie

@@ -2,7 +2,7 @@
 use mathlib.Core.Path.{subst}
 use borrow.Author.Needs.{needs}
 use Rattle.refutation.specs.Refuting.{TriedOk}
-use Rattle.refutation.proofs.Refuting.{not-refuted}
+use Rattle.completions.proofs.Left.{not-refuted}
 use Rattle.refutation.proofs.refute.refuted.Statement.{statement}
 use Rattle.refutation.proofs.refute.refuted.Tie as tie
 

@@ -7,7 +7,7 @@ use Rattle.clauses.specs.declared.ClauseSet.the-variants.{Extended}
 use Rattle.propagation.specs.Steps.{StateOk}
 use Rattle.completions.specs.Left.{left}
 use Rattle.refutation.specs.Refuting.{TriedOk}
-use Rattle.refutation.proofs.Refuting.{not-refuted}
+use Rattle.completions.proofs.Left.{not-refuted}
 use Rattle.refutation.proofs.refute.refuted_by_surveys.Statement.{statement}
 use Rattle.refutation.proofs.refute.refuted_by_surveys.Tie as tie
 

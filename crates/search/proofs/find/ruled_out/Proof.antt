@@ -1,6 +1,6 @@
 -- Only the test refutes.
 use borrow.Author.Needs.{needs}
-use Rattle.refutation.proofs.Refuting.{not-refuted}
+use Rattle.completions.proofs.Left.{not-refuted}
 use Rattle.search.proofs.find.ruled_out.Statement.{statement}
 use Rattle.search.proofs.find.ruled_out.Tie as tie
 

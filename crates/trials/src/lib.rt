@@ -1,0 +1,4 @@
+// Trials.
+//
+//     trial    trials along an order, in passes, under a ceiling
+pub mod trial;

@@ -1,0 +1,8 @@
+pub mod Slots
+pub mod Rules
+pub mod Literals
+pub mod Sums
+mod Assigning
+pub mod Striking
+mod Opening
+mod Affirming

@@ -1,0 +1,28 @@
+-- Each arm is the slot of its kind.
+use mathlib.Core.Path.{ap, sym}
+use borrow.Author.Needs.{needs}
+use Rattle.worklist.specs.Groups.{slotAt}
+use Rattle.worklist.proofs.groups.slot_at.Statement.{statement}
+use Rattle.worklist.proofs.groups.slot_at.Tie as tie
+
+returns : tie.Need-returns
+unfolding slotAt
+returns c = ap (λ f. slotAt f (c .before .before .args .p)) (sym (c .enum-told .given .1))
+
+returns-2 : tie.Need-returns-2
+unfolding slotAt
+returns-2 c = ap (λ f. slotAt f (c .before .before .args .p)) (sym (c .enum-told2 .given .1))
+
+returns-3 : tie.Need-returns-3
+unfolding slotAt
+returns-3 c = ap (λ f. slotAt f (c .before .before .args .p)) (sym (c .enum-told3 .given .1))
+
+returns-4 : tie.Need-returns-4
+unfolding slotAt
+returns-4 c = ap (λ f. slotAt f (c .before .before .args .p)) (sym (c .enum-told4 .given .1))
+
+pub slot-at-spec : {M : Type 1} → statement M
+slot-at-spec =
+    tie.close
+    (tie.spec (λ c. search needs) (λ c. search needs) (λ c. search needs) (λ c. search needs) (λ c. search needs) (λ c. search needs) (λ c. search needs)
+    (λ c. search needs) (λ c. search needs) (λ c. search needs) (λ c. search needs) (λ c. search needs) (λ c. search needs) returns returns-2 returns-3 returns-4)

@@ -1,0 +1,84 @@
+-- The four groups of a place, and the slots of the nine-literal clauses, which are the groups in the order of their numbers in document 01.
+use mathlib.Core.Path.{_≡_}
+use mathlib.Core.Bool.{cond}
+use Prim.Native.Nat.{ℕ, zero, suc, _+_, _*_, _-_, _/_, _%_, _≤_, _<_}
+use lib.Dec.{ltb}
+use Rattle.clauses.specs.Shape.{placeOf, columnOf, rowOf, boxOf}
+use Rattle.clauses.specs.declared.ClauseSet.{ClauseSet}
+use Rattle.clauses.specs.declared.ClauseSet.the-variants.{Minimal, Extended}
+use Rattle.clauses.specs.declared.Group.{Group}
+use Rattle.clauses.specs.declared.Group.the-variants as group
+use Rattle.worklist.specs.declared.groups.Line.{Line}
+use Rattle.worklist.specs.declared.groups.Kind.{Kind}
+use Rattle.worklist.specs.declared.groups.Kind.the-variants.{Cell, Column, Row, Box}
+
+-- the group of that kind that has place p
+unfoldable pub groupAt : Kind → ℕ → Group
+groupAt Cell p = group.Cell (p / 9)
+groupAt Column p = group.House (9 + p / 9 % 9) (p % 9)
+groupAt Row p = group.House (p / 81) (p % 9)
+groupAt Box p = group.House (18 + (3 * (p / 243) + p / 27 % 3)) (p % 9)
+
+-- the k-th place of a line
+abbrev pub placeAlong : Line → ℕ → ℕ
+placeAlong a k = a .first + a .far * (k / 3) + a .near * (k % 3)
+
+-- a line has the nine places of a group
+abbrev pub LineOf : Group → Line → Type 0
+LineOf g a = (k : ℕ) → k < 9 → placeAlong a k ≡ placeOf g k
+
+-- where place p stands in its group
+unfoldable pub indexAt : Kind → ℕ → ℕ
+indexAt Cell p = p % 9
+indexAt Column p = p / 81
+indexAt Row p = p / 9 % 9
+indexAt Box p = 3 * (p / 81 % 3) + p / 9 % 3
+
+-- the kinds by number: the cell, then the houses
+abbrev pub kindAt : ℕ → Kind
+kindAt zero = Cell
+kindAt (suc zero) = Column
+kindAt (suc (suc zero)) = Row
+kindAt (suc (suc (suc i))) = Box
+
+-- the number of a kind
+abbrev pub numberOf : Kind → ℕ
+numberOf Cell = 0
+numberOf Column = 1
+numberOf Row = 2
+numberOf Box = 3
+
+-- from which kind on a set has the pairs: set 1 of the houses, set 2 of all
+abbrev pub firstPair : ClauseSet → ℕ
+firstPair Minimal = 1
+firstPair Extended = 0
+
+-- a set has the pairs of a kind
+abbrev pub PairKind : ClauseSet → Kind → Type 0
+PairKind s f = firstPair s ≤ numberOf f
+
+-- of how many kinds, the first of them, a set has the nine: set 1 of the cell, set 2 of all
+abbrev pub nineKinds : ClauseSet → ℕ
+nineKinds Minimal = 1
+nineKinds Extended = 4
+
+-- a set has the nine of a kind
+abbrev pub NineKind : ClauseSet → Kind → Type 0
+NineKind s f = numberOf f < nineKinds s
+
+-- the group of slot x: F1's cells, then the columns of F7, the rows of F8 and the boxes of F9
+unfoldable pub groupIn : ℕ → Group
+groupIn x =
+    cond (ltb x 81) (group.Cell x)
+    (cond (ltb x 162) (columnOf (x - 81)) (cond (ltb x 243) (rowOf (x - 162)) (boxOf (x - 243))))
+
+-- the number of its clause in document 01: F1 begins at 0, and F7 at 11,745
+unfoldable pub clauseIn : ℕ → ℕ
+clauseIn x = cond (ltb x 81) x (x + 11664)
+
+-- the slot of the group of that kind that has place p
+unfoldable pub slotAt : Kind → ℕ → ℕ
+slotAt Cell p = p / 9
+slotAt Column p = 81 + p % 81
+slotAt Row p = 162 + (9 * (p / 81) + p % 9)
+slotAt Box p = 243 + (9 * (p % 9) + (3 * (p / 243) + p / 27 % 3))

@@ -1,0 +1,3 @@
+pub mod Groups
+pub mod Sums
+pub mod Acting
