@@ -21,7 +21,8 @@ ghost use Rattle.grading.specs.Grade.{gradeCall};
 ghost use Rattle.batch.specs.Call.{batchCall};
 ghost use Rattle.jobfile.specs.Call.{readCall};
 ghost use Rattle.listing.specs.Listing.{headerLine, listed};
-ghost use Rattle.packed.specs.Packed.{packedCheck, packedGiven, packedRun, packedFound, packedGraded, packedRan, packedFile, written};
+ghost use Rattle.packing.specs.Packed.{packedCheck, packedGiven, packedRun, packedFound, packedGraded, packedRan, packedFile};
+ghost use Rattle.packed.specs.Written.{written};
 
 #[no_mangle]
 pub extern "C" fn grader_check_grid(grid: &[u8]) -> u64

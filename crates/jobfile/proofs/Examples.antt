@@ -6,11 +6,11 @@ use Prim.Native.Nat.{ℕ}
 use lib.IntN.{pos, negsuc}
 use Rattle.grid.specs.Examples.{G}
 use Rattle.grid.specs.Refusals.{refusal}
-use Rattle.jobfile.specs.Number.{signedOf}
-use Rattle.jobfile.specs.Pieces.{bodyLength, pieceAt, walkFrom, piecesOf}
-use Rattle.jobfile.specs.Bodies.{gridIn, techniqueIn}
-use Rattle.jobfile.specs.declared.piece.Bodies.{Bodies}
-use Rattle.jobfile.specs.declared.piece.Pieces.the-variants.{Whole, Refused}
+use Rattle.pieces.specs.Number.{signedOf}
+use Rattle.pieces.specs.Pieces.{bodyLength, pieceAt, walkFrom, piecesOf}
+use Rattle.pieces.specs.declared.piece.Bodies.{Bodies}
+use Rattle.pieces.specs.declared.piece.Pieces.the-variants.{Whole, Refused}
+use Rattle.jobfile.specs.Contents.{gridIn, techniqueIn}
 
 -- a file of G and technique 3, and its bodies
 abbrev whole : List ℕ

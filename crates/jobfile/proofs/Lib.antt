@@ -1,4 +1,2 @@
 pub mod Copying
-pub mod Reading
-pub mod Walking
 mod Examples

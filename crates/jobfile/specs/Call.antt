@@ -11,13 +11,13 @@ use Rattle.grid.specs.declared.Checked.{Checked}
 use Rattle.grid.specs.declared.Checked.the-variants as check
 use Rattle.orders.specs.Order.{orderCheck}
 use Rattle.orders.specs.Technique.{techniqueOf, onKnown}
-use Rattle.jobfile.specs.Pieces.{piecesOf}
-use Rattle.jobfile.specs.Bodies.{gridIn, techniqueIn, ceilingIn, orderIn}
+use Rattle.pieces.specs.Pieces.{piecesOf}
+use Rattle.pieces.specs.declared.piece.Bodies.{Bodies}
+use Rattle.pieces.specs.declared.piece.Pieces.{Pieces}
+use Rattle.pieces.specs.declared.piece.Pieces.the-variants as pieces
+use Rattle.jobfile.specs.Contents.{gridIn, techniqueIn, ceilingIn, orderIn}
 use Rattle.jobfile.specs.declared.ReadAnswer.{ReadAnswer}
 use Rattle.jobfile.specs.declared.ReadAnswer.the-variants.{Read, Refused}
-use Rattle.jobfile.specs.declared.piece.Bodies.{Bodies}
-use Rattle.jobfile.specs.declared.piece.Pieces.{Pieces}
-use Rattle.jobfile.specs.declared.piece.Pieces.the-variants as pieces
 
 -- the host's part, by lengths. 42: not 81 bytes for the grid; 46: not 1,458 literals for the order
 unfoldable pub lentCheck : ℕ → ℕ → Checked

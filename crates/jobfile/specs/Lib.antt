@@ -1,4 +1,2 @@
-pub mod Number
-pub mod Pieces
-pub mod Bodies
+pub mod Contents
 pub mod Call

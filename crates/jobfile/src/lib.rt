@@ -2,13 +2,6 @@
 //
 //     read           the reading call, with its refusals
 //     ReadAnswer     what it answers
-//     piece          the pieces of a file
-//     number         little-endian numbers
-use crate::number::signed;
-use crate::number::word_at;
-use crate::piece::Bodies;
-use crate::piece::Pieces;
-use crate::piece::read_pieces;
 use grid::Checked;
 use grid::Refusal;
 use grid::check_grid;
@@ -19,14 +12,17 @@ use orders::order::check_order;
 use orders::order::default_order;
 use orders::technique::Numbered;
 use orders::technique::Technique;
+use pieces::number::signed;
+use pieces::number::word_at;
+use pieces::piece::Bodies;
+use pieces::piece::Pieces;
+use pieces::piece::read_pieces;
 ghost use mathlib.Core.Path.{_≡_};
 ghost use Prim.Native.Nat.{_+_, _≤_};
 ghost use lib.ListN.{length};
-ghost use Rattle.jobfile.specs.Bodies.{Within, Readable, entriesAt, ceilingIn, orderIn};
+ghost use Rattle.pieces.specs.Bodies.{Within, Readable};
+ghost use Rattle.jobfile.specs.Contents.{entriesAt, ceilingIn, orderIn};
 ghost use Rattle.jobfile.specs.Call.{lentCheck, contentsCheck, readBodies, readCall};
-
-mod number;
-mod piece;
 
 // The answer of a reading call: the technique's number and the ceiling, or a refusal.
 pub enum ReadAnswer {

@@ -1,4 +1,4 @@
-// The calls, each with its answer packed into one 64-bit number, since an exported function returns no more.
+// The calls, each with its answer packed into one 64-bit number.
 //
 //     check_grid       the keyer's check of a grid
 //     clause           the clause call
@@ -9,123 +9,24 @@
 //     read_job_file    the reading of a job file
 //     header           the header of a listing, in a lent buffer
 //     list_line        an output line of a listing
-use batch::BatchAnswer;
-use clauses::ClauseAnswer;
-use grading::GradeAnswer;
-use grid::Checked;
-use grid::Refusal;
-use inference::job::JobAnswer;
-use inference::job::Outcome;
-use jobfile::ReadAnswer;
-use search::SearchAnswer;
+use packing::pack_batch;
+use packing::pack_check;
+use packing::pack_clause;
+use packing::pack_grade;
+use packing::pack_job;
+use packing::pack_read;
+use packing::pack_search;
 ghost use mathlib.Core.Path.{_≡_};
 ghost use Rattle.grid.specs.Refusals.{gridCheck};
 ghost use Rattle.clauses.specs.Call.{clauseCall};
-ghost use Rattle.inference.specs.Call.{outcomeNumber, jobCall};
+ghost use Rattle.inference.specs.Call.{jobCall};
 ghost use Rattle.search.specs.Call.{searchCall};
 ghost use Rattle.grading.specs.Grade.{gradeCall};
 ghost use Rattle.batch.specs.Call.{batchCall};
 ghost use Rattle.jobfile.specs.Call.{readCall};
 ghost use Rattle.listing.specs.Listing.{headerLine, listed};
-ghost use Rattle.packed.specs.Packed.{packedRefusal, packedResult, packedCounted, packedCheck, packedClause, packedGiven, packedJob, packedRun};
-ghost use Rattle.packed.specs.Packed.{packedSearch, packedFound, packedGrade, packedGraded};
-ghost use Rattle.packed.specs.Packed.{packedBatch, packedRan, packedRead, packedFile, written};
-
-const RESULT: u64 = 281474976710656;
-
-const NUMBER: u64 = 72057594037927936;
-
-fn pack_refusal(r: Refusal) -> u64
-    ensures { λ p. ⌜ p ≡ packedRefusal r ⌝ }
-{
-    (r.number % 256) as u64 * NUMBER + (r.place as u64) % RESULT
-}
-
-fn pack_result(n: usize) -> u64
-    ensures { λ p. ⌜ p ≡ packedResult n ⌝ }
-{
-    (n % 256) as u64 * RESULT
-}
-
-fn pack_counted(n: usize, count: u32) -> u64
-    ensures { λ p. ⌜ p ≡ packedCounted n count ⌝ }
-{
-    pack_result(n) + (count as u64) % RESULT
-}
-
-fn pack_check(c: Checked) -> u64
-    ensures { λ p. ⌜ p ≡ packedCheck c ⌝ }
-{
-    match c {
-        Checked::Accepted => 0,
-        Checked::Refused(r) => pack_refusal(r),
-    }
-}
-
-fn pack_clause(a: ClauseAnswer) -> u64
-    ensures { λ p. ⌜ p ≡ packedClause a ⌝ }
-{
-    match a {
-        ClauseAnswer::Length(n) => pack_result(n),
-        ClauseAnswer::Refused(r) => pack_refusal(r),
-    }
-}
-
-fn outcome_number(o: Outcome) -> usize
-    ensures { λ r. ⌜ r ≡ outcomeNumber o ⌝ }
-{
-    match o {
-        Outcome::Solved => 1,
-        Outcome::Open => 2,
-        Outcome::Stopped => 3,
-        Outcome::Contradiction => 4,
-    }
-}
-
-fn pack_job(a: JobAnswer) -> u64
-    ensures { λ p. ⌜ p ≡ packedJob a ⌝ }
-{
-    match a {
-        JobAnswer::Finished(o, n) => pack_counted(outcome_number(o), n),
-        JobAnswer::Refused(r) => pack_refusal(r),
-    }
-}
-
-fn pack_search(a: SearchAnswer) -> u64
-    ensures { λ p. ⌜ p ≡ packedSearch a ⌝ }
-{
-    match a {
-        SearchAnswer::Counted(n) => pack_result(n as usize),
-        SearchAnswer::Refused(r) => pack_refusal(r),
-    }
-}
-
-fn pack_grade(a: GradeAnswer) -> u64
-    ensures { λ p. ⌜ p ≡ packedGrade a ⌝ }
-{
-    match a {
-        GradeAnswer::Graded(v, n) => pack_counted(v as usize, n),
-        GradeAnswer::Refused(r) => pack_refusal(r),
-    }
-}
-
-fn pack_batch(a: BatchAnswer) -> u64
-    ensures { λ p. ⌜ p ≡ packedBatch a ⌝ }
-{
-    match a {
-        BatchAnswer::Ran => 0,
-        BatchAnswer::Refused(r) => pack_refusal(r),
-    }
-}
-
-fn pack_read(a: ReadAnswer) -> u64
-    ensures { λ p. ⌜ p ≡ packedRead a ⌝ }
-{
-    match a {
-        ReadAnswer::Read(t, c) => pack_counted(t as usize, c),
-        ReadAnswer::Refused(r) => pack_refusal(r),
-    }
-}
+ghost use Rattle.packing.specs.Packed.{packedCheck, packedGiven, packedRun, packedFound, packedGraded, packedRan, packedFile};
+ghost use Rattle.packed.specs.Written.{written};
 
 pub fn check_grid(grid: &[u8]) -> u64
     ensures { λ p. ⌜ p ≡ packedCheck (gridCheck (now (grid .entry))) ⌝ }

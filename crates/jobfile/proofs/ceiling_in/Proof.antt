@@ -5,8 +5,8 @@ use native.Mathlib.Omega.{arith}
 use borrow.Author.Needs.{needs}
 use borrow.Author.Tests.{eq-eqb, ne-eqb}
 use lib.ListN.{length}
-use Rattle.jobfile.specs.Pieces.{bodyLength}
-use Rattle.jobfile.specs.Bodies.{ceilingIn}
+use Rattle.pieces.specs.Pieces.{bodyLength}
+use Rattle.jobfile.specs.Contents.{ceilingIn}
 use Rattle.jobfile.proofs.ceiling_in.Statement.{statement}
 use Rattle.jobfile.proofs.ceiling_in.Tie as tie
 

@@ -7,8 +7,8 @@ use lib.IntN.{pos}
 use lib.ListN.{length, getD, length-set}
 use Rattle.clauses.proofs.Filling.{map-at}
 use Rattle.clauses.proofs.Signed.{returned}
-use Rattle.jobfile.specs.Number.{signedOf}
-use Rattle.jobfile.specs.Bodies.{entryAt, entriesAt}
+use Rattle.pieces.specs.Number.{signedOf}
+use Rattle.jobfile.specs.Contents.{entryAt, entriesAt}
 use Rattle.jobfile.proofs.Copying.{copied, copied-more, copied-all}
 use Rattle.jobfile.proofs.entries_at.Statement.{statement}
 use Rattle.jobfile.proofs.entries_at.Tie as tie

@@ -1,8 +1,8 @@
 -- An order that is there lies within the file.
 use borrow.Author.Needs.{needs}
 use borrow.Author.Tests.{eq-eqb, ne-eqb}
-use Rattle.jobfile.specs.Pieces.{bodyLength}
-use Rattle.jobfile.specs.Bodies.{orderIn}
+use Rattle.pieces.specs.Pieces.{bodyLength}
+use Rattle.jobfile.specs.Contents.{orderIn}
 use Rattle.jobfile.proofs.order_in.Statement.{statement}
 use Rattle.jobfile.proofs.order_in.Tie as tie
 

@@ -12,11 +12,11 @@ use Rattle.grid.specs.Refusals.{refusal, onAccepted}
 use Rattle.grid.specs.declared.Checked.{Checked}
 use Rattle.grid.specs.declared.Checked.the-variants as check
 use Rattle.grid.proofs.Completion.{not-accepted}
-use Rattle.jobfile.specs.Pieces.{piecesOf}
+use Rattle.pieces.specs.Pieces.{piecesOf}
+use Rattle.pieces.specs.declared.piece.Pieces.{Pieces}
+use Rattle.pieces.specs.declared.piece.Pieces.the-variants.{Whole}
+use Rattle.pieces.proofs.Walking.{pieces-readable}
 use Rattle.jobfile.specs.Call.{lentCheck, refused, onWhole, readBodies, readCall}
-use Rattle.jobfile.specs.declared.piece.Pieces.{Pieces}
-use Rattle.jobfile.specs.declared.piece.Pieces.the-variants.{Whole}
-use Rattle.jobfile.proofs.Walking.{pieces-readable}
 use Rattle.jobfile.proofs.read.Statement.{statement}
 use Rattle.jobfile.proofs.read.Tie as tie
 

@@ -8,11 +8,11 @@ use lib.ListN.{length, take, drop}
 use Rattle.grid.specs.Refusals.{onAccepted}
 use Rattle.grid.specs.declared.Checked.{Checked}
 use Rattle.grid.specs.declared.Checked.the-variants.{Accepted}
-use Rattle.jobfile.specs.Pieces.{bodyLength}
-use Rattle.jobfile.specs.Bodies.{gridIn, techniqueIn, ceilingIn, orderIn}
+use Rattle.pieces.specs.Pieces.{bodyLength}
+use Rattle.pieces.specs.declared.piece.Bodies.{Bodies}
+use Rattle.jobfile.specs.Contents.{gridIn, techniqueIn, ceilingIn, orderIn}
 use Rattle.jobfile.specs.Call.{contentsCheck, refused, readBodies}
 use Rattle.jobfile.specs.declared.ReadAnswer.the-variants.{Read}
-use Rattle.jobfile.specs.declared.piece.Bodies.{Bodies}
 use Rattle.jobfile.proofs.read_bodies.Statement.{statement}
 use Rattle.jobfile.proofs.read_bodies.Tie as tie
 

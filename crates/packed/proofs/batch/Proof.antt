@@ -1,6 +1,6 @@
 -- The call's answer, packed, its marks and its numbers.
 use mathlib.Core.Path.{ap, _∙_}
-use Rattle.packed.specs.Packed.{packedRan}
+use Rattle.packing.specs.Packed.{packedRan}
 use borrow.Author.Needs.{needs}
 use Rattle.packed.proofs.batch.Statement.{statement}
 use Rattle.packed.proofs.batch.Tie as tie

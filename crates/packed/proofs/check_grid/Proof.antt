@@ -1,6 +1,6 @@
 -- The check's answer, packed.
 use mathlib.Core.Path.{ap, _∙_}
-use Rattle.packed.specs.Packed.{packedCheck}
+use Rattle.packing.specs.Packed.{packedCheck}
 use borrow.Author.Needs.{needs}
 use Rattle.packed.proofs.check_grid.Statement.{statement}
 use Rattle.packed.proofs.check_grid.Tie as tie

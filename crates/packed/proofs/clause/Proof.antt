@@ -1,6 +1,6 @@
 -- The call's answer, packed, and its literals.
 use mathlib.Core.Path.{ap, _∙_}
-use Rattle.packed.specs.Packed.{packedGiven}
+use Rattle.packing.specs.Packed.{packedGiven}
 use borrow.Author.Needs.{needs}
 use Rattle.packed.proofs.clause.Statement.{statement}
 use Rattle.packed.proofs.clause.Tie as tie

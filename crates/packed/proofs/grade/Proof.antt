@@ -1,6 +1,6 @@
 -- The call's answer, packed, and its buffer.
 use mathlib.Core.Path.{ap, _∙_}
-use Rattle.packed.specs.Packed.{packedGraded}
+use Rattle.packing.specs.Packed.{packedGraded}
 use borrow.Author.Needs.{needs}
 use Rattle.packed.proofs.grade.Statement.{statement}
 use Rattle.packed.proofs.grade.Tie as tie

@@ -1,6 +1,6 @@
 -- The call's answer, packed, and its marks.
 use mathlib.Core.Path.{ap, _∙_}
-use Rattle.packed.specs.Packed.{packedRun}
+use Rattle.packing.specs.Packed.{packedRun}
 use borrow.Author.Needs.{needs}
 use Rattle.packed.proofs.job.Statement.{statement}
 use Rattle.packed.proofs.job.Tie as tie

@@ -1,6 +1,6 @@
 -- The call's answer, packed, and its buffers.
 use mathlib.Core.Path.{ap, _∙_}
-use Rattle.packed.specs.Packed.{packedFile}
+use Rattle.packing.specs.Packed.{packedFile}
 use borrow.Author.Needs.{needs}
 use Rattle.packed.proofs.read_job_file.Statement.{statement}
 use Rattle.packed.proofs.read_job_file.Tie as tie

@@ -1,6 +1,6 @@
 -- The call's answer, packed, and its buffers.
 use mathlib.Core.Path.{ap, _∙_}
-use Rattle.packed.specs.Packed.{packedFound}
+use Rattle.packing.specs.Packed.{packedFound}
 use borrow.Author.Needs.{needs}
 use Rattle.packed.proofs.search.Statement.{statement}
 use Rattle.packed.proofs.search.Tie as tie
