@@ -1,5 +1,7 @@
 // Crowded houses: where some cells of a house have fewer digits left between them than they are, no full grid fits the marks. Which cells
 // that may be is found by bits, of which nothing is promised; then it is counted and looked at, place by place, that they are such cells.
+//
+//     crowded    whether some house is found to be crowded
 use clauses::Group;
 use clauses::decode::place;
 use worklist::groups::wide;

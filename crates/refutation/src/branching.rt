@@ -31,6 +31,7 @@ pub(crate) fn group_at(i: usize) -> Group
     }
 }
 
+// As a number of 64 bits, below 2 to the 32.
 fn wide(n: u32) -> u64
     ensures { λ r. ⌜ r < 4294967296 ⌝ }
 {

@@ -117,6 +117,7 @@ pub(crate) fn clause_in(slot: usize) -> u16
     }
 }
 
+// A number of two bytes, as an index.
 pub fn wide(n: u16) -> usize
     ensures { λ r. ⌜ r ≡ n ⌝ }
 {
