@@ -5,4 +5,3 @@ pub mod ModelsAreCompletions
 pub mod Numbers
 pub mod ShapeNumber
 pub mod Proper
-pub mod Signed

@@ -1,4 +1,3 @@
-pub mod Literal
 pub mod Clauses
 pub mod Call
 pub mod Models

@@ -9,8 +9,8 @@ use lib.Dec.{T}
 use lib.IntN.{ℤ, pos, negsuc}
 use lib.ListN.{length, getD}
 use Rattle.grid.specs.Completion.{Legal}
+use Rattle.literals.specs.Literal.{Literal}
 use Rattle.clauses.specs.Clauses.{clausesOf}
-use Rattle.clauses.specs.Literal.{Literal}
 use Rattle.clauses.specs.Models.{givens, holds, truthOf}
 use Rattle.closure.specs.Job.{End, jobEnd, countOf}
 use Rattle.closure.proofs.Ceiling.{count-below}

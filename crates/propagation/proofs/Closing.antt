@@ -10,8 +10,8 @@ use native.Mathlib.Omega.{arith}
 use lib.Dec.{T}
 use lib.IntN.{ℤ, pos, negsuc, negℤ}
 use lib.ListN.{length, set}
+use Rattle.literals.specs.Literal.{Literal}
 use Rattle.clauses.specs.Clauses.{clausesOf}
-use Rattle.clauses.specs.Literal.{Literal}
 use Rattle.clauses.specs.Models.{givens}
 use Rattle.clauses.specs.Shape.{placeOf}
 use Rattle.clauses.specs.declared.ClauseSet.{ClauseSet}

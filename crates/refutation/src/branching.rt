@@ -5,7 +5,6 @@
 use clauses::ClauseSet;
 use clauses::Group;
 use clauses::decode::place;
-use clauses::literal;
 use crowding::crowded;
 use propagation::close::Reached;
 use propagation::close::close_true;
@@ -212,7 +211,7 @@ fn weigh_place(
             list,
             decided,
             ClauseSet::Extended,
-            literal::negative(place),
+            literals::negative(place),
         ),
     }
 }

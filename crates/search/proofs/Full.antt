@@ -10,7 +10,7 @@ use lib.IntN.{ℤ, pos, negsuc}
 use lib.Seq.{ext-getD}
 use Rattle.grid.specs.Grid.{isDigit}
 use Rattle.grid.proofs.Counting.{tally-some}
-use Rattle.clauses.specs.Literal.{Literal}
+use Rattle.literals.specs.Literal.{Literal}
 use Rattle.clauses.specs.Clauses.{clausesOf}
 use Rattle.clauses.specs.Models.{Truth, holds, Satisfies, truthOf}
 use Rattle.clauses.specs.Shape.{placeOf, IsShape, InSet, clauseOf}

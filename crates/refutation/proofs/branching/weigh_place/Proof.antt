@@ -10,9 +10,9 @@ use lib.IntN.{pos, negsuc}
 use lib.ListN.{getD}
 use mir.Syntax.{w16}
 use mir.Val.{toZ, ofZ}
-use Rattle.clauses.specs.Literal.{Literal}
+use Rattle.literals.specs.Literal.{Literal}
+use Rattle.literals.proofs.Signed.{returned}
 use Rattle.clauses.specs.declared.ClauseSet.the-variants.{Extended}
-use Rattle.clauses.proofs.Signed.{returned}
 use Rattle.closure.specs.Closure.{With}
 use Rattle.closure.specs.Marks.{has, isDecided}
 use Rattle.closure.proofs.Marks.{decided-rises}

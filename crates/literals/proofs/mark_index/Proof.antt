@@ -2,10 +2,10 @@
 use mathlib.Core.Path.{ap, _∙_}
 use native.Mathlib.Omega.{arith}
 use lib.IntN.{natAbs}
-use Rattle.clauses.proofs.Signed.{read}
+use Rattle.literals.proofs.Signed.{read}
 use borrow.Author.Needs.{needs}
-use Rattle.clauses.proofs.literal.mark_index.Statement.{statement}
-use Rattle.clauses.proofs.literal.mark_index.Tie as tie
+use Rattle.literals.proofs.mark_index.Statement.{statement}
+use Rattle.literals.proofs.mark_index.Tie as tie
 
 returns : tie.Need-returns
 returns c = let s = c .before .before in omega (arith, c .before .magnitude .ensures ∙ ap natAbs (read (s .args .l) (s .fits .l)))

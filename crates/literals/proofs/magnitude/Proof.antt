@@ -7,10 +7,10 @@ use lib.IntN.{pos, negsuc, natAbs, _-ℤ_}
 use lib.Signed.{mag, ltZ}
 use mir.Syntax.{w16}
 use mir.Val.{SFits, toZ, ofZ}
-use Rattle.clauses.proofs.Signed.{read, test-of, less-one, not-below}
+use Rattle.literals.proofs.Signed.{read, test-of, less-one, not-below}
 use borrow.Author.Needs.{needs}
-use Rattle.clauses.proofs.literal.magnitude.Statement.{statement}
-use Rattle.clauses.proofs.literal.magnitude.Tie as tie
+use Rattle.literals.proofs.magnitude.Statement.{statement}
+use Rattle.literals.proofs.magnitude.Tie as tie
 
 -- what is left of l below 0, and what the code makes of it
 rest : (c : tie.Start) → ltZ (toZ w16 (ofZ w16 (c .args .l))) (pos 0) ≡ true → (negsuc 0 -ℤ c .args .l ≡ pos (mag (c .args .l))) × (natAbs (c .args .l) ≡ mag (c .args .l) + 1)

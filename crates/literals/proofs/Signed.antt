@@ -13,7 +13,7 @@ use mir.Syntax.{w16}
 use mir.Val.{SFits, hbits, toZ, ofZ}
 use mir.ValLaws.{toZ-pos, toZ-ofZ}
 use Rattle.grid.proofs.Table.{and-iff}
-use Rattle.clauses.specs.Literal.{Literal, isLiteral, markIndex}
+use Rattle.literals.specs.Literal.{Literal, isLiteral, markIndex}
 
 -- a number as it is read back from its bits
 pub read : (l : ℤ) → SFits w16 l → toZ w16 (ofZ w16 l) ≡ l

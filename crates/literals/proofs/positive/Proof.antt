@@ -2,10 +2,10 @@
 use mathlib.Core.Path.{ap, _∙_}
 use native.Mathlib.Omega.{arith}
 use lib.IntN.{pos}
-use Rattle.clauses.proofs.Signed.{read, place-is}
+use Rattle.literals.proofs.Signed.{read, place-is}
 use borrow.Author.Needs.{needs}
-use Rattle.clauses.proofs.literal.positive.Statement.{statement}
-use Rattle.clauses.proofs.literal.positive.Tie as tie
+use Rattle.literals.proofs.positive.Statement.{statement}
+use Rattle.literals.proofs.positive.Tie as tie
 
 add-result : tie.Need-add-result
 add-result c = rw (place-is (c .args .place) (c .pre)) (record { sfits = omega (arith, c .pre) })

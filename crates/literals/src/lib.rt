@@ -1,8 +1,11 @@
 // Literals as signed 16-bit numbers: +v and -v, v from 1 to 729. 0 is none.
+//
+//     magnitude, is_literal, negated, mark_index    of any 16-bit number
+//     positive, negative                            the literals of a mark's place
 ghost use mathlib.Core.Path.{_≡_};
 ghost use Prim.Native.Nat.{suc, _<_};
 ghost use lib.IntN.{pos, negsuc, natAbs};
-ghost use Rattle.clauses.specs.Literal.{isLiteral, negation, markIndex};
+ghost use Rattle.literals.specs.Literal.{isLiteral, negation, markIndex};
 
 pub fn magnitude(l: i16) -> usize
     ensures { λ r. ⌜ r ≡ natAbs l ⌝ }

@@ -1,9 +1,9 @@
 -- The difference is the literal, and fits.
 use lib.IntN.{negsuc}
-use Rattle.clauses.proofs.Signed.{read, negative-is, negative-fits}
+use Rattle.literals.proofs.Signed.{read, negative-is, negative-fits}
 use borrow.Author.Needs.{needs}
-use Rattle.clauses.proofs.literal.negative.Statement.{statement}
-use Rattle.clauses.proofs.literal.negative.Tie as tie
+use Rattle.literals.proofs.negative.Statement.{statement}
+use Rattle.literals.proofs.negative.Tie as tie
 
 sub-result : tie.Need-sub-result
 sub-result c = let k = c .args .place in rw (negative-is k (c .pre)) (negative-fits k (c .pre))

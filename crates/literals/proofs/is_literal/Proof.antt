@@ -2,11 +2,11 @@
 use mathlib.Core.Path.{_≡_, ap, _∙_}
 use lib.IntN.{natAbs}
 use borrow.Author.Tests.{le-leb, lt-leb}
-use Rattle.clauses.specs.Literal.{isLiteral}
-use Rattle.clauses.proofs.Signed.{read}
+use Rattle.literals.specs.Literal.{isLiteral}
+use Rattle.literals.proofs.Signed.{read}
 use borrow.Author.Needs.{needs}
-use Rattle.clauses.proofs.literal.is_literal.Statement.{statement}
-use Rattle.clauses.proofs.literal.is_literal.Tie as tie
+use Rattle.literals.proofs.is_literal.Statement.{statement}
+use Rattle.literals.proofs.is_literal.Tie as tie
 
 -- what the call says of the number itself
 is-magnitude : (c : tie.After-magnitude) → c .magnitude .result ≡ natAbs (c .before .args .l)

@@ -4,11 +4,11 @@ use lib.Dec.{T}
 use lib.IntN.{negℤ}
 use mir.Syntax.{w16}
 use mir.Val.{SFits}
-use Rattle.clauses.specs.Literal.{isLiteral, negation}
-use Rattle.clauses.proofs.Signed.{read, zero-less, literal-iff, negation-fits}
+use Rattle.literals.specs.Literal.{isLiteral, negation}
+use Rattle.literals.proofs.Signed.{read, zero-less, literal-iff, negation-fits}
 use borrow.Author.Needs.{needs}
-use Rattle.clauses.proofs.literal.negated.Statement.{statement}
-use Rattle.clauses.proofs.literal.negated.Tie as tie
+use Rattle.literals.proofs.negated.Statement.{statement}
+use Rattle.literals.proofs.negated.Tie as tie
 
 -- what the call says of the number itself
 tested : (c : tie.After-is-literal) → c .is-literal .result ≡ isLiteral (c .before .args .l)
