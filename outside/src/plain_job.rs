@@ -1,9 +1,9 @@
 //! The job call by the steps of the proved one, in plain Rust: the bench times the proved call
 //! beside it. A place is a variable less 1. Each nine-literal clause has a sum of what its places
 //! weigh, so that a look at the sum tells whether it may act, and on which place. Clauses that may
-//! act are listed and looked at one by one; a place that becomes true strikes the others of its
-//! groups at once, so that no two-literal clause is left to act. Trials that are known to succeed
-//! are only counted.
+//! act are listed by their numbers and looked at one by one; a place that becomes true lists the
+//! two-literal clauses that it is in, and these act before the next look. Trials that are known to
+//! succeed are only counted.
 
 use crate::grid::{self, VARIABLES};
 use crate::refusal::{demand, demand_none, Refusal};
@@ -46,55 +46,154 @@ impl State {
     }
 }
 
-/// The groups of a place: its cell, and its column, its row and its box for its digit. A table would
-/// take less time; the proved loop has none, since its toolchain builds a constant array at each use.
+/// The groups of a place: its cell, and its column, its row and its box for its digit.
 #[inline(always)]
 fn groups(p: u16) -> [u16; 4] {
+    let (cell, digit) = (p / 9, p % 9);
+    let (row, column) = (cell / 9, cell % 9);
     [
-        p / 9,
-        81 + p % 81,
-        162 + 9 * (p / 81) + p % 9,
-        243 + 9 * (p % 9) + 3 * (p / 243) + p / 27 % 3,
+        cell,
+        81 + 9 * column + digit,
+        162 + 9 * row + digit,
+        243 + 9 * digit + 3 * (row / 3) + column / 3,
     ]
 }
 
-/// The nine places of each group of a place, in the order of `groups`: the first one, and the steps
-/// from three to three and from one to the next.
+/// The number of a group's clause, and the group of a clause: F1 comes first, F7 to F9 last.
 #[inline(always)]
-fn lines(p: usize) -> [[usize; 3]; 4] {
+fn clause_of(group: u16) -> u16 {
+    if group < 81 {
+        group
+    } else {
+        group + 11_664
+    }
+}
+
+#[inline(always)]
+fn group_of(clause: u16) -> u16 {
+    if clause < 11_664 {
+        clause
+    } else {
+        clause - 11_664
+    }
+}
+
+/// The index of a pair of nine places among the 36, the lower first.
+const fn pair_index(low: usize, high: usize) -> u16 {
+    (low * (17 - low) / 2 + high - low - 1) as u16
+}
+
+/// The index of a pair of places of a box: among the nine in one row of it, or the 27 in two.
+const fn box_index(low: usize, high: usize) -> u16 {
+    let (row, column) = (low / 3, low % 3);
+    let index = if row == high / 3 {
+        3 * row + column + high % 3 - 1
+    } else {
+        18 * row + (6 - 3 * row) * column + 3 * (high / 3 - row - 1) + high % 3
+    };
+    index as u16
+}
+
+/// Both indices for all places: the nine rows of the pairs, and then those of the pairs in a box.
+const PAIRS: [[u16; 9]; 18] = {
+    let mut pairs = [[0; 9]; 18];
+    let mut low = 0;
+    while low < 9 {
+        let mut high = low + 1;
+        while high < 9 {
+            pairs[low][high] = pair_index(low, high);
+            pairs[high][low] = pair_index(low, high);
+            pairs[9 + low][high] = box_index(low, high);
+            pairs[9 + high][low] = box_index(low, high);
+            high += 1;
+        }
+        low += 1;
+    }
+    pairs
+};
+
+/// Places of a group of a place, from one on and before another: the first of the group, and the
+/// steps from three to three and from one to the next; the row of `PAIRS`, and the number from which
+/// the pairs with these places are counted.
+struct Run {
+    places: (usize, usize),
+    line: [usize; 3],
+    row: usize,
+    number: usize,
+}
+
+/// The runs of a place in the order of `groups`; the box by its rows, since the pairs in one row of it
+/// are a family of their own.
+#[inline(always)]
+fn runs(p: usize) -> [Run; 6] {
+    let (cell, digit) = (p / 9, p % 9);
+    let (row, column) = (cell / 9, cell % 9);
+    let (band, stack) = (row / 3, column / 3);
+    let number = 9 * digit + 3 * band + stack;
+    let in_box = |third: usize| Run {
+        places: (3 * third, 3 * third + 3),
+        line: [243 * band + 27 * stack + digit, 81, 9],
+        row: 9 + 3 * (row % 3) + column % 3,
+        number: if third == row % 3 {
+            5_913 + 9 * number
+        } else {
+            6_642 + 27 * number
+        },
+    };
     [
-        [9 * (p / 9), 3, 1],
-        [p % 81, 243, 81],
-        [81 * (p / 81) + p % 9, 27, 9],
-        [243 * (p / 243) + 27 * (p / 27 % 3) + p % 9, 81, 9],
+        Run {
+            places: (0, 9),
+            line: [9 * cell, 3, 1],
+            row: digit,
+            number: 8_829 + 36 * cell,
+        },
+        Run {
+            places: (0, 9),
+            line: [9 * column + digit, 243, 81],
+            row,
+            number: 81 + 36 * (9 * column + digit),
+        },
+        Run {
+            places: (0, 9),
+            line: [81 * row + digit, 27, 9],
+            row: column,
+            number: 2_997 + 36 * (9 * row + digit),
+        },
+        in_box(0),
+        in_box(1),
+        in_box(2),
     ]
 }
 
 /// Unit closures over the extended clause set, or the minimal one.
 pub(crate) struct Closing<const EXTENDED: bool> {
-    /// The groups that may act, the first so many.
-    list: [u16; ROOM],
+    /// The clauses that may act: nine-literal ones, the first so many, and from `ROOM` on those of two
+    /// literals.
+    list: [u16; ROOM + 36],
     listed: usize,
 }
 
 impl<const EXTENDED: bool> Closing<EXTENDED> {
     pub(crate) fn new() -> Self {
         Closing {
-            list: [0; ROOM],
+            list: [0; ROOM + 36],
             listed: 0,
         }
     }
 
-    /// An undecided place gets a mark, and weighs so much more. Each of its groups is written to the
-    /// list, and stays there if it may act: that needs no branch.
+    /// An undecided place gets a mark, and weighs so much more. The clause of each of its groups is
+    /// written to the list, and stays there if it may act: that needs no branch.
     #[inline(always)]
     fn assign(&mut self, state: &mut State, p: usize, mark: u8, more: u16) {
         let nines = if EXTENDED { 4 } else { 1 };
         for &group in &groups(p as u16)[..nines] {
-            let sum = &mut state.sums[usize::from(group)];
-            *sum = sum.wrapping_add(more);
-            self.list[self.listed] = group;
-            self.listed += usize::from(*sum < 2 * OPEN);
+            // SAFETY: a group is below 324, and each of the 729 places lists four clauses at most.
+            unsafe {
+                let sum = state.sums.get_unchecked_mut(usize::from(group));
+                *sum = sum.wrapping_add(more);
+                *self.list.get_unchecked_mut(self.listed) = clause_of(group);
+                self.listed += usize::from(*sum < 2 * OPEN);
+            }
         }
         state.marks[p] = mark;
         state.decided += 1;
@@ -106,34 +205,45 @@ impl<const EXTENDED: bool> Closing<EXTENDED> {
         self.assign(state, p, 2, (OPEN + p as u16).wrapping_neg());
     }
 
-    /// An undecided place becomes true, and strikes the others of its groups. Those are noted first,
-    /// without a branch for each.
+    /// An undecided place becomes true. The clauses of two literals that it is in are written to the
+    /// list, each with the other place beside it, and stay there if that is undecided, without a
+    /// branch for each; then they strike.
     #[inline(always)]
     fn affirm(&mut self, state: &mut State, p: usize) {
         self.assign(state, p, 1, OPEN);
-        let mut noted = [0u16; 36];
+        let mut beside = [0u16; 36];
         let mut count = 0;
         let first_pairs = if EXTENDED { 0 } else { 1 };
-        for [first, far, near] in &lines(p)[first_pairs..] {
-            for k in 0..9 {
+        for run in &runs(p)[first_pairs..] {
+            let [first, far, near] = run.line;
+            for k in run.places.0..run.places.1 {
                 let q = first + far * (k / 3) + near * (k % 3);
-                noted[count] = q as u16;
-                count += usize::from(state.marks[q] == 0);
+                // SAFETY: the runs have 36 places, all below 729, and a row of `PAIRS` below 18.
+                unsafe {
+                    let index = PAIRS.get_unchecked(run.row).get_unchecked(k);
+                    *self.list.get_unchecked_mut(ROOM + count) = run.number as u16 + index;
+                    *beside.get_unchecked_mut(count) = q as u16;
+                    count += usize::from(*state.marks.get_unchecked(q) == 0);
+                }
             }
         }
-        for &q in &noted[..count] {
-            let q = usize::from(q);
-            if state.marks[q] == 0 {
-                self.strike(state, q);
+        while count != 0 {
+            count -= 1;
+            // SAFETY: there are 36 places at most, each below 729.
+            unsafe {
+                let q = usize::from(*beside.get_unchecked(count));
+                if *state.marks.get_unchecked(q) == 0 {
+                    self.strike(state, q);
+                }
             }
         }
     }
 
-    /// Looks at the groups that are listed; false for a contradiction.
+    /// Looks at the nine-literal clauses that are listed; false for a contradiction.
     fn propagate(&mut self, state: &mut State) -> bool {
         while self.listed > 0 {
             self.listed -= 1;
-            match state.sums[usize::from(self.list[self.listed])] {
+            match state.sums[usize::from(group_of(self.list[self.listed]))] {
                 0 => return false,
                 sum if sum < 2 * OPEN => self.affirm(state, usize::from(sum - OPEN)),
                 _ => {}

@@ -18,14 +18,14 @@ use Rattle.grid.proofs.Completion.{digit-iff}
 use Rattle.literals.specs.Literal.{Literal}
 use Rattle.clauses.specs.Clauses.{Clause, range, over, clausesOf}
 use Rattle.clauses.specs.Models.{Truth, holds, givenAt, givens}
-use Rattle.clauses.specs.Shape.{IsShape, InSet, clauseOf, shapeOf, boxOf, rowsPair}
+use Rattle.clauses.specs.Shape.{IsShape, InSet, clauseOf, shapeOf, boxOf, rowsPair, numberOf}
 use Rattle.clauses.specs.declared.ClauseSet.{ClauseSet}
 use Rattle.clauses.specs.declared.ClauseSet.the-variants.{Minimal, Extended}
 use Rattle.clauses.specs.declared.Shape.{Shape}
 use Rattle.clauses.specs.declared.Shape.the-variants.{NotBoth}
 use Rattle.clauses.proofs.Families.{shape-F1, shape-F2, shape-F3, shape-F4, shape-F5}
 use Rattle.clauses.proofs.Numbers.{sizeOf, sizes, set-long, clause-at, shape-is}
-use Rattle.clauses.proofs.ShapeNumber.{numberOf, shape-number}
+use Rattle.clauses.proofs.ShapeNumber.{shape-number}
 
 module _ {A : Type 0} (d : A) where
   -- a member stands at some place,
@@ -61,7 +61,7 @@ box-pair-in q t = go (ltb t 18)
     go false = tt
 
 -- the shape of a number of a set is one that the set has
-shape-in : (t : ClauseSet) (n : ℕ) → n < sizeOf t → InSet t (shapeOf n)
+pub shape-in : (t : ClauseSet) (n : ℕ) → n < sizeOf t → InSet t (shapeOf n)
 shape-in Extended n h = tt
 shape-in Minimal n h = go (decLt n 81) (decLt n 2997) (decLt n 5913) (decLt n 6642)
   where

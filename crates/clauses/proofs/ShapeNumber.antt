@@ -1,14 +1,14 @@
 -- The number of the clause of a shape: that the number has this shape is a test that is computed, over every group and pair.
 -- Assumes nothing.
-use mathlib.Core.Path.{_≡_, ap}
-use mathlib.Core.Bool.{Bool, false, cond, _&&_}
-use Prim.Native.Nat.{ℕ, _+_, _*_, _-_, _/_, _%_, _<_}
+use mathlib.Core.Path.{_≡_, ap, subst}
+use mathlib.Core.Bool.{Bool, false, _&&_}
+use Prim.Native.Nat.{ℕ, _+_, _*_, _/_, _%_, _<_}
 use native.Mathlib.Omega.{arith}
 use lib.Dec.{T, ltb, eqb, ltb→lt, eqb→eq}
 use Rattle.grid.specs.Counting.{all}
 use Rattle.grid.proofs.Table.{and-iff}
 use Rattle.grid.proofs.Counting.{all-iff}
-use Rattle.clauses.specs.Shape.{IsGroup, IsShape, InSet, shapeOf}
+use Rattle.clauses.specs.Shape.{IsGroup, IsShape, InSet, shapeOf, numberOf}
 use Rattle.clauses.specs.declared.ClauseSet.{ClauseSet}
 use Rattle.clauses.specs.declared.ClauseSet.the-variants.{Minimal, Extended}
 use Rattle.clauses.specs.declared.Group.{Group}
@@ -16,26 +16,6 @@ use Rattle.clauses.specs.declared.Group.the-variants.{Cell, House}
 use Rattle.clauses.specs.declared.Shape.{Shape}
 use Rattle.clauses.specs.declared.Shape.the-variants.{OneOf, NotBoth}
 use Rattle.clauses.proofs.Numbers.{sizeOf}
-
--- the index of the pair i < j of nine places; in a box, that of a pair in one row of it, and that of a pair in two
-abbrev pub pairIndex : ℕ → ℕ → ℕ
-pairIndex i j = i * (17 - i) / 2 + (j - i - 1)
-
-abbrev pub rowIndex : ℕ → ℕ → ℕ
-rowIndex i j = 3 * (i / 3) + (i % 3 + j % 3 - 1)
-
-abbrev pub rowsIndex : ℕ → ℕ → ℕ
-rowsIndex i j = 18 * (i / 3) + (6 - 3 * (i / 3)) * (i % 3) + 3 * (j / 3 - i / 3 - 1) + j % 3
-
--- the number of the clause of a shape
-unfoldable pub numberOf : Shape → ℕ
-numberOf (OneOf (Cell c)) = c
-numberOf (OneOf (House h d)) = cond (ltb h 9) (11826 + 9 * h + d) (cond (ltb h 18) (11745 + 9 * (h - 9) + d) (11907 + 9 * d + (h - 18)))
-numberOf (NotBoth (Cell c) i j) = 8829 + 36 * c + pairIndex i j
-numberOf (NotBoth (House h d) i j) =
-    cond (ltb h 9) (2997 + 36 * (9 * h + d) + pairIndex i j)
-    (cond (ltb h 18) (81 + 36 * (9 * (h - 9) + d) + pairIndex i j)
-    (cond (eqb (i / 3) (j / 3)) (5913 + 9 * (9 * d + (h - 18)) + rowIndex i j) (6642 + 27 * (9 * d + (h - 18)) + rowsIndex i j)))
 
 -- tests of equality
 abbrev pub sameGroup : Group → Group → Bool
@@ -117,3 +97,17 @@ pub shape-number : (t : ClauseSet) (s : Shape) → IsShape s → InSet t s → (
 shape-number t s h i =
     let w = and-iff (ltb (numberOf s) (boundOf s)) (sameShape (shapeOf (numberOf s)) s) .0 (shape-right s h) in
     (bound-fits t s i (numberOf s) (ltb→lt (numberOf s) (boundOf s) (w .0)), shape-eq (shapeOf (numberOf s)) s (w .1))
+
+-- a clause's number is that of its shape: a test that is computed, over all 11,988 numbers
+abbrev again : ℕ → Bool
+again n = eqb (numberOf (shapeOf n)) n
+
+all-again : T (all 111 λ a. all 108 λ b. again (108 * a + b))
+unfolding all numberOf shapeOf
+all-again = tt
+
+pub number-again : (n : ℕ) → n < 11988 → numberOf (shapeOf n) ≡ n
+number-again n h =
+    let e : 108 * (n / 108) + n % 108 ≡ n = omega arith in
+    let t = all-iff 108 (λ b. again (108 * (n / 108) + b)) .0 (all-iff 111 (λ a. all 108 λ b. again (108 * a + b)) .0 all-again (n / 108) (omega arith)) (n % 108) (omega arith) in
+    eqb→eq (numberOf (shapeOf n)) n (subst (λ x. T (again x)) e t)

@@ -4,7 +4,7 @@
 use mathlib.Core.Bool.{cond}
 use mathlib.Core.List.{List, [], _∷_, map}
 use Prim.Native.Nat.{ℕ, suc, _+_, _*_, _-_, _/_, _%_, _<_}
-use lib.Dec.{ltb}
+use lib.Dec.{ltb, eqb}
 use lib.IntN.{pos, negsuc}
 use lib.ListN.{getD}
 use Rattle.grid.specs.House.{cellOf}
@@ -83,3 +83,23 @@ shapeOf n =
     (cond (ltb n 11745) (pairOf (Cell ((n - 8829) / 36)) ((n - 8829) % 36))
     (cond (ltb n 11826) (OneOf (columnOf (n - 11745)))
     (cond (ltb n 11907) (OneOf (rowOf (n - 11826))) (OneOf (boxOf (n - 11907))))))))))
+
+-- the index of the pair i < j of nine places; in a box, that of a pair in one row of it, and that of a pair in two
+abbrev pub pairIndex : ℕ → ℕ → ℕ
+pairIndex i j = i * (17 - i) / 2 + (j - i - 1)
+
+abbrev pub rowIndex : ℕ → ℕ → ℕ
+rowIndex i j = 3 * (i / 3) + (i % 3 + j % 3 - 1)
+
+abbrev pub rowsIndex : ℕ → ℕ → ℕ
+rowsIndex i j = 18 * (i / 3) + (6 - 3 * (i / 3)) * (i % 3) + 3 * (j / 3 - i / 3 - 1) + j % 3
+
+-- the number of the clause of a shape
+unfoldable pub numberOf : Shape → ℕ
+numberOf (OneOf (Cell c)) = c
+numberOf (OneOf (House h d)) = cond (ltb h 9) (11826 + 9 * h + d) (cond (ltb h 18) (11745 + 9 * (h - 9) + d) (11907 + 9 * d + (h - 18)))
+numberOf (NotBoth (Cell c) i j) = 8829 + 36 * c + pairIndex i j
+numberOf (NotBoth (House h d) i j) =
+    cond (ltb h 9) (2997 + 36 * (9 * h + d) + pairIndex i j)
+    (cond (ltb h 18) (81 + 36 * (9 * (h - 9) + d) + pairIndex i j)
+    (cond (eqb (i / 3) (j / 3)) (5913 + 9 * (9 * d + (h - 18)) + rowIndex i j) (6642 + 27 * (9 * d + (h - 18)) + rowsIndex i j)))

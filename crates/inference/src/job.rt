@@ -51,7 +51,7 @@ pub fn run_with(
     let set = technique.set;
     let mut marks = [0u8; 729];
     let mut sums = [0u16; 324];
-    let mut list = [0u16; 2916];
+    let mut list = [0u16; 2952];
     let begun = close_givens(&mut marks, &mut sums, &mut list, set, grid);
     match begun {
         Reached::Clash => Ended {

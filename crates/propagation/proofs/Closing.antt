@@ -60,7 +60,7 @@ closed-quiet s m ok x h b = ⊎-elim
     (λ k. omega (arith, k .3, byte-true m (placeOf (groupIn x) (k .0)) (slot-lasts s (has m) (ok .closed) x h (k .0) (k .1) (k .4))))
     (sum-small m (groupIn x) (ok .marks) b)
 
-pub state-ready : (s : ClauseSet) {m a ls : List ℕ} {d : ℕ} {E : ℕ → Type 0} → StateOk s m a d → length ls ≡ 2916 → Ready s E m a ls (record { listed = 0; decided = d })
+pub state-ready : (s : ClauseSet) {m a ls : List ℕ} {d : ℕ} {E : ℕ → Type 0} → StateOk s m a d → length ls ≡ 2952 → Ready s E m a ls (record { listed = 0; decided = d })
 state-ready s {m} ok long =
     record {
       marks = ok .marks .marks;

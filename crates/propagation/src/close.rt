@@ -39,7 +39,7 @@ pub(crate) enum Looked {
 fn look(
     marks: &mut [u8; 729],
     sums: &mut [u16; 324],
-    list: &mut [u16; 2916],
+    list: &mut [u16; 2952],
     work: Work,
     set: ClauseSet,
 ) -> Looked
@@ -66,7 +66,7 @@ fn look(
 fn propagate(
     marks: &mut [u8; 729],
     sums: &mut [u16; 324],
-    list: &mut [u16; 2916],
+    list: &mut [u16; 2952],
     work: Work,
     set: ClauseSet,
 ) -> Reached
@@ -95,8 +95,8 @@ fn size(list: &[u16]) -> usize
 }
 
 // The length of a lent list, as a fact.
-fn room(list: &[u16; 2916])
-    ensures { λ _. ⌜ length (now (list .entry)) ≡ 2916 ⌝ }
+fn room(list: &[u16; 2952])
+    ensures { λ _. ⌜ length (now (list .entry)) ≡ 2952 ⌝ }
 {
     size(list);
 }
@@ -105,7 +105,7 @@ fn room(list: &[u16; 2916])
 pub fn close_with(
     marks: &mut [u8; 729],
     sums: &mut [u16; 324],
-    list: &mut [u16; 2916],
+    list: &mut [u16; 2952],
     decided: usize,
     set: ClauseSet,
     literal: i16,
@@ -128,7 +128,7 @@ pub fn close_with(
 pub fn close_true(
     marks: &mut [u8; 729],
     sums: &mut [u16; 324],
-    list: &mut [u16; 2916],
+    list: &mut [u16; 2952],
     decided: usize,
     set: ClauseSet,
     place: usize,
@@ -166,7 +166,7 @@ fn blank_sums() -> [u16; 324]
 pub fn close_givens(
     marks: &mut [u8; 729],
     sums: &mut [u16; 324],
-    list: &mut [u16; 2916],
+    list: &mut [u16; 2952],
     set: ClauseSet,
     grid: &[u8],
 ) -> Reached

@@ -137,7 +137,7 @@ fn open_place(marks: &[u8; 729], group: Group) -> usize
 fn dive(
     marks: &mut [u8; 729],
     sums: &mut [u16; 324],
-    list: &mut [u16; 2916],
+    list: &mut [u16; 2952],
     decided: usize,
 ) -> bool
     requires { ⌜ StateOk Extended (now marks) (now sums) decided ⌝ }
@@ -179,7 +179,7 @@ fn weight(decided: usize) -> u32 {
 fn weigh_place(
     marks: &mut [u8; 729],
     sums: &mut [u16; 324],
-    list: &mut [u16; 2916],
+    list: &mut [u16; 2952],
     decided: usize,
     weights: &mut [u32; 729],
     place: usize,
@@ -229,7 +229,7 @@ fn counted(failures: u32) -> u32 {
 fn weigh_from(
     marks: &mut [u8; 729],
     sums: &mut [u16; 324],
-    list: &mut [u16; 2916],
+    list: &mut [u16; 2952],
     decided: usize,
     weights: &mut [u32; 729],
     failures: &mut [u32; 729],
@@ -262,7 +262,7 @@ fn weigh_from(
 fn weigh_once(
     marks: &mut [u8; 729],
     sums: &mut [u16; 324],
-    list: &mut [u16; 2916],
+    list: &mut [u16; 2952],
     decided: usize,
     weights: &mut [u32; 729],
     failures: &mut [u32; 729],
@@ -281,7 +281,7 @@ fn weigh_once(
 fn weigh(
     marks: &mut [u8; 729],
     sums: &mut [u16; 324],
-    list: &mut [u16; 2916],
+    list: &mut [u16; 2952],
     decided: usize,
     weights: &mut [u32; 729],
     failures: &mut [u32; 729],
@@ -319,7 +319,7 @@ pub(crate) enum Looked {
 fn survey(
     marks: &mut [u8; 729],
     sums: &mut [u16; 324],
-    list: &mut [u16; 2916],
+    list: &mut [u16; 2952],
     decided: usize,
     failures: &mut [u32; 729],
 ) -> Looked
@@ -354,7 +354,7 @@ fn survey(
 pub(crate) fn look(
     marks: &mut [u8; 729],
     sums: &mut [u16; 324],
-    list: &mut [u16; 2916],
+    list: &mut [u16; 2952],
     decided: usize,
     failures: &mut [u32; 729],
     plain: bool,

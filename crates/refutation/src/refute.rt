@@ -28,7 +28,7 @@ pub(crate) enum Tried {
 fn refute_within(
     marks: &mut [u8; 729],
     sums: &mut [u16; 324],
-    list: &mut [u16; 2916],
+    list: &mut [u16; 2952],
     decided: usize,
     failures: &mut [u32; 729],
     nodes: u32,
@@ -103,7 +103,7 @@ fn refute_within(
 fn refuted_by_surveys(
     marks: &mut [u8; 729],
     sums: &[u16; 324],
-    list: &mut [u16; 2916],
+    list: &mut [u16; 2952],
     decided: usize,
     failures: &mut [u32; 729],
 ) -> bool
@@ -146,7 +146,7 @@ const PLAIN: u32 = 160;
 pub fn refuted(
     marks: &mut [u8; 729],
     sums: &[u16; 324],
-    list: &mut [u16; 2916],
+    list: &mut [u16; 2952],
     decided: usize,
     failures: &mut [u32; 729],
 ) -> bool

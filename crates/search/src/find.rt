@@ -119,7 +119,7 @@ fn digits_in(marks: &[u8; 729]) -> [u8; 81]
 fn ruled_out(
     marks: &[u8; 729],
     sums: &[u16; 324],
-    list: &mut [u16; 2916],
+    list: &mut [u16; 2952],
     decided: usize,
     guess: &mut [u8; 729],
     failures: &mut [u32; 729],
@@ -143,7 +143,7 @@ fn ruled_out(
 fn explore(
     marks: &[u8; 729],
     sums: &[u16; 324],
-    list: &mut [u16; 2916],
+    list: &mut [u16; 2952],
     decided: usize,
     guess: &mut [u8; 729],
     failures: &mut [u32; 729],
@@ -198,7 +198,7 @@ pub fn find(grid: &[u8]) -> Found
 {
     let mut marks = [0u8; 729];
     let mut sums = [0u16; 324];
-    let mut list = [0u16; 2916];
+    let mut list = [0u16; 2952];
     let started = close_givens(&mut marks, &mut sums, &mut list, ClauseSet::Extended, grid);
     match started {
         Reached::Clash => none(),

@@ -60,7 +60,7 @@ pub(crate) enum Shown {
 fn attempt(
     marks: &mut [u8; 729],
     sums: &mut [u16; 324],
-    list: &mut [u16; 2916],
+    list: &mut [u16; 2952],
     known: &mut [u8; 729],
     decided: usize,
     set: ClauseSet,
@@ -121,7 +121,7 @@ pub(crate) enum Pass {
 fn next(
     marks: &mut [u8; 729],
     sums: &mut [u16; 324],
-    list: &mut [u16; 2916],
+    list: &mut [u16; 2952],
     known: &mut [u8; 729],
     possible: &[u8; 729],
     decided: usize,
@@ -164,7 +164,7 @@ fn next(
 fn walk(
     marks: &mut [u8; 729],
     sums: &mut [u16; 324],
-    list: &mut [u16; 2916],
+    list: &mut [u16; 2952],
     known: &mut [u8; 729],
     possible: &[u8; 729],
     decided: usize,
@@ -220,7 +220,7 @@ pub struct Ended {
 pub fn passes(
     state: State,
     sums: &mut [u16; 324],
-    list: &mut [u16; 2916],
+    list: &mut [u16; 2952],
     possible: &[u8; 729],
     set: ClauseSet,
     order: &[i16],

@@ -49,7 +49,7 @@ slot-at-place i p h = let w = index-at p h (kindAt i) in (indexAt (kindAt i) p, 
 -- those of the place p whose turn is still to come
 pub record Weighing (kinds i p : ℕ) (m m' a ls : List ℕ) (n : ℕ) : Type 0 where
   pub long : length a ≡ 324
-  pub room : length ls ≡ 2916
+  pub room : length ls ≡ 2952
   pub few : n ≤ 4 * decided m + i
   pub done : (x : ℕ) → x < 81 * kinds → x < 81 * i → getD a x 0 ≡ sumOf m' (groupIn x)
   pub todo : (x : ℕ) → x < 81 * kinds → 81 * i ≤ x → getD a x 0 ≡ sumOf m (groupIn x)

@@ -4,5 +4,6 @@ pub mod Literals
 pub mod Sums
 mod Assigning
 pub mod Striking
-mod Opening
+mod Pairs
+mod Listing
 mod Affirming

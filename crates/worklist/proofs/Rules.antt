@@ -25,7 +25,7 @@ use Rattle.worklist.specs.declared.groups.Kind.the-variants.{Cell, Row, 
 use Rattle.worklist.proofs.Slots.{group-is, by-kind, place-once, number-below}
 
 -- the kinds are those of the shapes
-pair-in : (s : ClauseSet) (f : Kind) → PairKind s f → (p i j : ℕ) → InSet s (NotBoth (groupAt f p) i j)
+pub pair-in : (s : ClauseSet) (f : Kind) → PairKind s f → (p i j : ℕ) → InSet s (NotBoth (groupAt f p) i j)
 unfolding groupAt
 pair-in Extended f h p i j = tt
 pair-in Minimal Cell h p i j = omega (arith, h)
@@ -33,7 +33,7 @@ pair-in Minimal Row h p i j = tt
 pair-in Minimal Column h p i j = tt
 pair-in Minimal Box h p i j = tt
 
-in-pair : (s : ClauseSet) (f : Kind) (p i j : ℕ) → InSet s (NotBoth (groupAt f p) i j) → PairKind s f
+pub in-pair : (s : ClauseSet) (f : Kind) (p i j : ℕ) → InSet s (NotBoth (groupAt f p) i j) → PairKind s f
 unfolding groupAt
 in-pair Extended f p i j h = omega arith
 in-pair Minimal Cell p i j h = absurd h

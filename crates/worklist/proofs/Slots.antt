@@ -14,13 +14,13 @@ use Rattle.grid.specs.House.{cellOf}
 use Rattle.grid.proofs.Table.{and-iff}
 use Rattle.grid.proofs.Counting.{all-iff}
 use Rattle.grid.proofs.House.{row-cell, column-cell, box-cell, by-house}
-use Rattle.clauses.specs.Shape.{placeOf, IsGroup, shapeOf}
+use Rattle.clauses.specs.Shape.{placeOf, IsGroup, shapeOf, numberOf as shapeNumber}
 use Rattle.clauses.specs.declared.ClauseSet.{ClauseSet}
 use Rattle.clauses.specs.declared.ClauseSet.the-variants.{Minimal, Extended}
 use Rattle.clauses.specs.declared.Group.{Group}
 use Rattle.clauses.specs.declared.Group.the-variants as group
 use Rattle.clauses.specs.declared.Shape.the-variants.{OneOf}
-use Rattle.clauses.proofs.ShapeNumber.{numberOf as shapeNumber, sameGroup, group-eq, shape-number}
+use Rattle.clauses.proofs.ShapeNumber.{sameGroup, group-eq, shape-number}
 use Rattle.worklist.specs.Groups.{groupAt, indexAt, kindAt, numberOf, nineKinds, NineKind, groupIn, clauseIn, slotAt}
 use Rattle.worklist.specs.declared.groups.Kind.{Kind}
 use Rattle.worklist.specs.declared.groups.Kind.the-variants.{Cell, Column, Row, Box}
@@ -57,6 +57,13 @@ row-place p k h = omega (arith, row-cell k (p / 81) (omega arith))
 pub column-place : (p k : ℕ) → placeOf (groupAt Column p) k ≡ 81 * k + p % 81
 unfolding groupAt placeOf
 column-place p k = omega (arith, column-cell k (p / 9 % 9) (omega arith))
+
+-- the row and the column of boxes that a place is in
+pub box-row : (p : ℕ) → p / 81 / 3 ≡ p / 243
+box-row p = omega arith
+
+pub box-column : (p : ℕ) → p / 9 % 9 / 3 ≡ p / 27 % 3
+box-column p = omega arith
 
 -- the first place of a box, by how far p is beyond it: a test that is computed
 abbrev beyond : ℕ → ℕ

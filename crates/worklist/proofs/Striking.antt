@@ -3,13 +3,13 @@
 use mathlib.Core.Path.{_≡_, refl, ap, sym, subst, _∙_}
 use mathlib.Core.Logic.{_⊎_, inl, inr, ⊎-elim}
 use mathlib.Core.List.{List}
-use Prim.Native.Nat.{ℕ, suc, _+_, _<_}
+use Prim.Native.Nat.{ℕ, suc, _-_, _≤_, _<_}
 use native.Mathlib.Decide.{decLt}
 use native.Mathlib.Omega.{arith}
 use lib.IntN.{pos, negsuc}
 use lib.ListN.{getD, set}
 use Rattle.clauses.specs.declared.ClauseSet.{ClauseSet}
-use Rattle.worklist.specs.Acting.{True, False, Listed, Ready, Strikes}
+use Rattle.worklist.specs.Acting.{True, False, Ready, Strikes}
 use Rattle.worklist.specs.declared.acting.Work.{Work}
 use Rattle.worklist.proofs.Literals.{has-set}
 use Rattle.worklist.proofs.Sums.{true-byte, false-byte}
@@ -43,6 +43,16 @@ module _ (s : ClauseSet) where
           only = λ l t. ⊎-elim inl (λ k. inr (q, refl, k)) (e l .0 t);
         }
 
+  -- the same places, said otherwise
+  pub strikes-same : {O P : ℕ → Type 0} {m m' a' ls' : List ℕ} {w' : Work} → ((x : ℕ) → O x → P x) → ((x : ℕ) → P x → O x) → Strikes s O m m' a' ls' w' → Strikes s P m m' a' ls' w'
+  strikes-same f g v =
+      record {
+        ready = v .ready;
+        keeps = v .keeps;
+        struck = λ x p. v .struck x (g x p);
+        only = λ l t. ⊎-elim inl (λ k. inr (k .0, f (k .0) (k .1), k .2)) (v .only l t);
+      }
+
   -- one place more
   pub strikes-more : {O P : ℕ → Type 0} {q : ℕ} {m m' a' ls' m'' a'' ls'' : List ℕ} {w' w'' : Work}
       → ((x : ℕ) → P x → O x ⊎ (x ≡ q)) → ((x : ℕ) → O x → P x) → P q
@@ -61,12 +71,13 @@ module _ (s : ClauseSet) where
   pub strikes-open : {O : ℕ → Type 0} {m m' a' ls' : List ℕ} {w' : Work} (q : ℕ) → Strikes s O m m' a' ls' w' → (True m q → ⊥) → True m' q → ⊥
   strikes-open q v n t = ⊎-elim n (λ k. absurd (signs-differ q (k .0) (k .2))) (v .only (pos (suc q)) t)
 
--- what is listed before the next place
-pub listed-next : (o : List ℕ) (i x : ℕ) → Listed o (i + 1) x → Listed o i x ⊎ (x ≡ getD o i 0)
-listed-next o i x k = elim (decLt (k .0) i) [
-  | yes h ↦ inl (k .0, h, k .2)
-  | no h ↦ (let e : k .0 ≡ i = omega (arith, k .1) in inr (sym (k .2) ∙ ap (λ j. getD o j 0) e))
-]
+-- place q stands in the array, from place i on and before n
+abbrev pub ListedFrom : List ℕ → ℕ → ℕ → ℕ → Type 0
+ListedFrom o i n q = (j : ℕ) × (i ≤ j) × (j < n) × (getD o j 0 ≡ q)
 
-pub listed-before : (o : List ℕ) (i x : ℕ) → Listed o i x → Listed o (i + 1) x
-listed-before o i x k = (k .0, omega (arith, k .1), k .2)
+-- what is listed from the place before on
+pub listed-next : (o : List ℕ) (i n x : ℕ) → 0 < i → ListedFrom o (i - 1) n x → ListedFrom o i n x ⊎ (x ≡ getD o (i - 1) 0)
+listed-next o i n x h k = elim (decLt (k .0) i) [
+  | yes b ↦ (let e : k .0 ≡ i - 1 = omega (arith, k .1) in inr (sym (k .3) ∙ ap (λ j. getD o j 0) e))
+  | no b ↦ inl (k .0, omega arith, k .2, k .3)
+]

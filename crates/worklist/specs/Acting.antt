@@ -2,8 +2,8 @@
 use mathlib.Core.Path.{_≡_}
 use mathlib.Core.Bool.{cond}
 use mathlib.Core.Logic.{_⊎_}
-use mathlib.Core.List.{List}
-use Prim.Native.Nat.{ℕ, suc, _+_, _*_, _-_, _≤_, _<_}
+use mathlib.Core.List.{List, [], _∷_}
+use Prim.Native.Nat.{ℕ, suc, _+_, _*_, _-_, _/_, _≤_, _<_}
 use lib.Dec.{T, ltb}
 use lib.IntN.{ℤ, pos, negsuc}
 use lib.ListN.{length, getD, set}
@@ -14,7 +14,7 @@ use Rattle.clauses.specs.declared.Group.{Group}
 use Rattle.closure.specs.Sets.{Within as LiteralsWithin, Least}
 use Rattle.closure.specs.Closure.{Contradiction, UnitClosed}
 use Rattle.closure.specs.Marks.{has, decided, IsMarks}
-use Rattle.worklist.specs.Groups.{groupAt, groupIn, clauseIn, kindAt, firstPair}
+use Rattle.worklist.specs.Groups.{groupAt, groupIn, clauseIn, kindAt, firstPair, pairNumber}
 use Rattle.worklist.specs.Sums.{weight, InSlots, SumsOk}
 use Rattle.worklist.specs.declared.acting.Work.{Work}
 
@@ -42,14 +42,14 @@ Undecided m p = (p < 729) × (getD m p 0 ≡ 0)
 abbrev pub IsSign : ℕ → Type 0
 IsSign b = (1 ≤ b) × (b ≤ 2)
 
--- Marks with their sums, and a list of clause numbers. It has every nine-literal clause whose sum is below 2,048, those that may still add a
--- literal or are a contradiction, but for the slots E. A place lists at most the four clauses that it is in, when it is decided, so that
--- there is room for all.
+-- Marks with their sums, and a list of clause numbers. From its front on it has every nine-literal clause whose sum is below 2,048, those that
+-- may still add a literal or are a contradiction, but for the slots E. A place lists at most the four clauses that it is in, when it is decided,
+-- so that 2,916 is room for all; behind them come the pairs.
 pub record Ready (s : ClauseSet) (E : ℕ → Type 0) (m a ls : List ℕ) (w : Work) : Type 0 where
   pub marks : IsMarks m
   pub sums : SumsOk s m a
   pub count : w .decided ≡ decided m
-  pub long : length ls ≡ 2916
+  pub long : length ls ≡ 2952
   pub room : w .listed ≤ 4 * w .decided
   pub numbers : (i : ℕ) → i < w .listed → (x : ℕ) × InSlots s x × (getD ls i 0 ≡ clauseIn x)
   pub acting : (x : ℕ) → InSlots s x → getD a x 0 < 2048 → E x ⊎ Listed ls (w .listed) (clauseIn x)
@@ -76,16 +76,60 @@ pub record Weighed (a ls : List ℕ) (n x p b : ℕ) (a' ls' : List ℕ) (n' : �
 abbrev pub Within : ℕ → ℕ → ℕ → ℕ → Type 0
 Within a i p q = (j : ℕ) × (a ≤ j) × (j < i) × (k : ℕ) × (k < 9) × (q ≡ placeOf (groupAt (kindAt j) p) k)
 
--- the undecided places of D are noted, and nothing else
-pub record Opened (m : List ℕ) (D : ℕ → Type 0) (o : List ℕ) (n : ℕ) : Type 0 where
-  pub long : length o ≡ 36
-  pub sound : (i : ℕ) → i < n → D (getD o i 0) × (getD m (getD o i 0) 0 ≡ 0)
-  pub complete : (q : ℕ) → D q → getD m q 0 ≡ 0 → Listed o n q
+-- clause c of the set says that not both of places p and q are true
+abbrev pub Pair : ClauseSet → ℕ → ℕ → ℕ → Type 0
+Pair s c p q =
+    (c < length (clausesOf s))
+    × ((getD (clausesOf s) c [] ≡ negsuc p ∷ negsuc q ∷ []) ⊎ (getD (clausesOf s) c [] ≡ negsuc q ∷ negsuc p ∷ []))
 
--- one kind more
-pub record OpenedMore (m : List ℕ) (i p : ℕ) (o : List ℕ) (n : ℕ) (o' : List ℕ) (n' : ℕ) : Type 0 where
-  pub few : n' ≤ n + 9
-  pub more : (a : ℕ) → a ≤ i → Opened m (Within a i p) o n → Opened m (Within a (i + 1) p) o' n'
+-- clause c of two literals may add that place q is false: its other place is true, and q is undecided
+abbrev pub Adds : ClauseSet → List ℕ → ℕ → ℕ → Type 0
+Adds s m c q = (p : ℕ) × True m p × Undecided m q × Pair s c p q
+
+-- number c stands among the n pairs of the list, which begin at 2,916, with place q beside it
+abbrev pub Beside : List ℕ → List ℕ → ℕ → ℕ → ℕ → Type 0
+Beside ls o n c q = (i : ℕ) × (i < n) × (getD ls (2916 + i) 0 ≡ c) × (getD o i 0 ≡ q)
+
+-- The pairs of the list, each with the place that it would strike beside it: exactly the two-literal clauses that may still add a literal.
+pub record PairsReady (s : ClauseSet) (m ls o : List ℕ) (n : ℕ) : Type 0 where
+  pub few : n ≤ 36
+  pub sound : (i : ℕ) → i < n → Adds s m (getD ls (2916 + i) 0) (getD o i 0)
+  pub complete : (c q : ℕ) → Adds s m c q → Beside ls o n c q
+
+-- the nine-literal clauses of the list are left as they are
+pub record Front (ls ls' : List ℕ) : Type 0 where
+  pub long : length ls' ≡ length ls
+  pub same : (i : ℕ) → i < 2916 → getD ls' i 0 ≡ getD ls i 0
+
+-- Of the pairs D, each a place and a number, those whose place is undecided are listed, and nothing else.
+pub record Opened (m : List ℕ) (D : ℕ → ℕ → Type 0) (ls o : List ℕ) (n : ℕ) : Type 0 where
+  pub long : length o ≡ 36
+  pub sound : (i : ℕ) → i < n → D (getD o i 0) (getD ls (2916 + i) 0) × (getD m (getD o i 0) 0 ≡ 0)
+  pub complete : (q c : ℕ) → D q c → getD m q 0 ≡ 0 → Beside ls o n c q
+
+-- the pairs of p with the places of its group of the j-th kind, from one on and before another
+abbrev pub Along : ℕ → ℕ → ℕ → ℕ → ℕ → ℕ → Type 0
+Along j p from to q c = (k : ℕ) × (from ≤ k) × (k < to) × (q ≡ placeOf (groupAt (kindAt j) p) k) × (c ≡ pairNumber (kindAt j) p k)
+
+-- those of the kinds from a on and before i, and of the i-th those with the first places
+abbrev pub Pairs : ℕ → ℕ → ℕ → ℕ → ℕ → ℕ → Type 0
+Pairs a i p to q c = ((j : ℕ) × (a ≤ j) × (j < i) × Along j p 0 9 q c) ⊎ Along i p 0 to q c
+
+-- places of a group whose pairs are counted from one number: in a box, within a third
+abbrev pub IsRun : ℕ → ℕ → ℕ → Type 0
+IsRun i from to = (i < 4) × (from ≤ to) × (to ≤ 9) × ((i < 3) ⊎ (to ≤ 3 * (from / 3) + 3))
+
+-- a run more is listed
+pub record RunListed (m : List ℕ) (i p from to : ℕ) (ls o : List ℕ) (n : ℕ) (ls' o' : List ℕ) (n' : ℕ) : Type 0 where
+  pub front : Front ls ls'
+  pub few : n' ≤ 9 * i + to
+  pub more : (a : ℕ) → a ≤ i → Opened m (Pairs a i p from) ls o n → Opened m (Pairs a i p to) ls' o' n'
+
+-- the pairs of p are listed, of the kinds from a on, as far as the first places of the i-th
+pub record ListedTo (m : List ℕ) (a i p to : ℕ) (ls ls' o' : List ℕ) (n' : ℕ) : Type 0 where
+  pub front : Front ls ls'
+  pub few : n' ≤ 9 * i + to
+  pub opened : Opened m (Pairs a i p to) ls' o' n'
 
 -- what is marked stays marked
 abbrev pub Keeps : List ℕ → List ℕ → Type 0

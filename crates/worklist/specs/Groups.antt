@@ -1,9 +1,12 @@
 -- The four groups of a place, and the slots of the nine-literal clauses, which are the groups in the order of their numbers in document 01.
 use mathlib.Core.Path.{_≡_}
 use mathlib.Core.Bool.{cond}
+use mathlib.Core.List.{List, _++_, map}
 use Prim.Native.Nat.{ℕ, zero, suc, _+_, _*_, _-_, _/_, _%_, _≤_, _<_}
-use lib.Dec.{ltb}
-use Rattle.clauses.specs.Shape.{placeOf, columnOf, rowOf, boxOf}
+use lib.Dec.{ltb, eqb}
+use lib.ListN.{getD}
+use Rattle.clauses.specs.Clauses.{range, over}
+use Rattle.clauses.specs.Shape.{placeOf, columnOf, rowOf, boxOf, pairIndex, rowIndex, rowsIndex}
 use Rattle.clauses.specs.declared.ClauseSet.{ClauseSet}
 use Rattle.clauses.specs.declared.ClauseSet.the-variants.{Minimal, Extended}
 use Rattle.clauses.specs.declared.Group.{Group}
@@ -82,3 +85,42 @@ slotAt Cell p = p / 9
 slotAt Column p = 81 + p % 81
 slotAt Row p = 162 + (9 * (p / 81) + p % 9)
 slotAt Box p = 243 + (9 * (p % 9) + (3 * (p / 243) + p / 27 % 3))
+
+-- the lower and the higher of two
+abbrev pub lower : ℕ → ℕ → ℕ
+lower i k = cond (ltb i k) i k
+
+abbrev pub higher : ℕ → ℕ → ℕ
+higher i k = cond (ltb i k) k i
+
+-- the index of a pair in a box: those in one row of it are counted apart from those in two
+abbrev pub boxIndex : ℕ → ℕ → ℕ
+boxIndex i j = cond (eqb (i / 3) (j / 3)) (rowIndex i j) (rowsIndex i j)
+
+-- nine rows of nine, by row and column
+abbrev pub square : (ℕ → ℕ → ℕ) → List ℕ
+square f = over (range 0 9) λ i. map (λ k. f (lower i k) (higher i k)) (range 0 9)
+
+-- the table of pairs: the index of each pair of nine places, and then of each in a box
+unfoldable pub pairTable : List ℕ
+pairTable = square pairIndex ++ square boxIndex
+
+-- where the row of place p in its group of that kind begins
+unfoldable pub rowAt : Kind → ℕ → ℕ
+rowAt Cell p = 9 * indexAt Cell p
+rowAt Column p = 9 * indexAt Column p
+rowAt Row p = 9 * indexAt Row p
+rowAt Box p = 81 + 9 * indexAt Box p
+
+-- the number from which on the pairs of p with the t-th third of that group are counted: F6, F2 and F3, and F4 or F5
+unfoldable pub firstNumber : Kind → ℕ → ℕ → ℕ
+firstNumber Cell p t = 8829 + 36 * (p / 9)
+firstNumber Column p t = 81 + 36 * (p % 81)
+firstNumber Row p t = 2997 + 36 * (9 * (p / 81) + p % 9)
+firstNumber Box p t =
+    let q = 9 * (p % 9) + (3 * (p / 243) + p / 27 % 3) in
+    cond (eqb t (p / 81 % 3)) (5913 + 9 * q) (6642 + 27 * q)
+
+-- the number of the pair of p with the k-th place of that group
+abbrev pub pairNumber : Kind → ℕ → ℕ → ℕ
+pairNumber f p k = firstNumber f p (k / 3) + getD pairTable (rowAt f p + k) 0

@@ -1,21 +1,24 @@
-// Marks with a sum for each nine-literal clause, and a list of the clauses that may act. A place that is decided changes the sums of the
-// clauses that it is in, and those that come to act are listed; a place that becomes true strikes the others of its groups at once, so that no
-// two-literal clause is left to act.
+// Marks with a sum for each nine-literal clause, and a list of the clauses that may act: nine-literal clauses from its front, and from 2,916 on
+// two-literal ones, pairs, with the place that each would strike beside it. A place that is decided changes the sums of the clauses that it is
+// in, and those that come to act are listed. A place that becomes true lists its pairs, and these act at once, so that between two steps none is left.
 use crate::groups::clause_in;
-use crate::groups::first_pair;
+use crate::groups::first_number;
 use crate::groups::kind_at;
 use crate::groups::line_of;
+use crate::groups::narrow;
 use crate::groups::nine_kinds;
+use crate::groups::pair_table;
 use crate::groups::place_in;
+use crate::groups::row_at;
 use crate::groups::slot_at;
 use crate::groups::wide;
 use clauses::ClauseSet;
 ghost use mathlib.Core.Path.{_≡_};
 ghost use Prim.Native.Nat.{ℕ, _+_, _*_, _≤_, _<_};
 ghost use lib.ListN.{getD, length, set as update};
-ghost use Rattle.worklist.specs.Groups.{firstPair};
+ghost use Rattle.worklist.specs.Groups.{firstPair, pairTable};
 ghost use Rattle.worklist.specs.Sums.{weight as weightOf};
-ghost use Rattle.worklist.specs.Acting.{Weighable, Weighed, Ready, At, Struck, Undecided, IsSign, Opened, OpenedMore, Within, True, Listed, Strikes, Stepped};
+ghost use Rattle.worklist.specs.Acting.{Weighable, Weighed, Ready, At, Struck, Undecided, IsSign, IsRun, RunListed, ListedTo, PairsReady, True, Listed, Strikes, Stepped};
 
 // How many clauses are listed, and how many variables are decided.
 pub struct Work {
@@ -40,7 +43,7 @@ fn weight(mark: u8, p: usize) -> usize
 // The sum of one clause, where a place of it that was undecided gets a mark. The clause is written to the list, and stays where it may act.
 fn weigh(
     sums: &mut [u16; 324],
-    list: &mut [u16; 2916],
+    list: &mut [u16; 2952],
     listed: usize,
     slot: usize,
     p: usize,
@@ -59,7 +62,7 @@ fn weigh(
 pub fn assign(
     marks: &mut [u8; 729],
     sums: &mut [u16; 324],
-    list: &mut [u16; 2916],
+    list: &mut [u16; 2952],
     work: Work,
     set: ClauseSet,
     p: usize,
@@ -83,42 +86,67 @@ pub fn assign(
     }
 }
 
-// The undecided places of the group of the i-th kind at p, behind those that are noted already.
-fn open_in(marks: &[u8; 729], noted: &mut [u16; 36], count: usize, i: usize, p: usize) -> usize
-    requires { ⌜ (p < 729) × (i < 4) × (count ≤ 9 * i) ⌝ }
-    ensures { λ r. ⌜ OpenedMore (now (marks .entry)) i p (now (noted .entry)) count (now (noted .exit)) r ⌝ }
+// The pairs of p with places of its group of the i-th kind, from one place on and before another: they are written behind those that are listed,
+// and stay where they may act.
+fn list_run(
+    marks: &[u8; 729],
+    list: &mut [u16; 2952],
+    beside: &mut [u16; 36],
+    table: &[u8; 162],
+    count: usize,
+    i: usize,
+    p: usize,
+    from: usize,
+    to: usize,
+) -> usize
+    requires { ⌜ IsRun i from to × (p < 729) × (count ≤ 9 * i + from) × (length (now list) ≡ 2952) × (now table ≡ pairTable) ⌝ }
+    ensures { λ r. ⌜ RunListed (now (marks .entry)) i p from to (now (list .entry)) (now (beside .entry)) count (now (list .exit)) (now (beside .exit)) r ⌝ }
 {
     let line = line_of(kind_at(i), p);
+    let row = row_at(kind_at(i), p);
+    let first = first_number(kind_at(i), p, from / 3);
     let mut n = count;
-    let mut k = 0;
-    while k < 9 {
+    let mut k = from;
+    while k < to {
         let q = place_in(line, k);
-        noted[n] = q as u16;
+        let at = row + k;
+        let number = first + narrow(table[at]);
+        list[2916 + n] = number as u16;
+        beside[n] = q as u16;
         n = if marks[q] == 0 { n + 1 } else { n };
         k += 1;
     }
     n
 }
 
-// The undecided places of the groups at p of which the set has the pairs.
-fn open_places(marks: &[u8; 729], noted: &mut [u16; 36], set: ClauseSet, p: usize) -> usize
-    requires { ⌜ (p < 729) × (length (now noted) ≡ 36) ⌝ }
-    ensures { λ r. ⌜ Opened (now (marks .entry)) (Within (firstPair set) 4 p) (now (noted .exit)) r × (r ≤ 36) ⌝ }
+// All pairs of p that may act.
+fn list_pairs(
+    marks: &[u8; 729],
+    list: &mut [u16; 2952],
+    beside: &mut [u16; 36],
+    table: &[u8; 162],
+    set: ClauseSet,
+    p: usize,
+) -> usize
+    requires { ⌜ (p < 729) × (length (now list) ≡ 2952) × (length (now beside) ≡ 36) × (now table ≡ pairTable) ⌝ }
+    ensures { λ r. ⌜ ListedTo (now (marks .entry)) (firstPair set) 3 p 9 (now (list .entry)) (now (list .exit)) (now (beside .exit)) r ⌝ }
 {
-    let mut n = 0;
-    let mut i = first_pair(set);
-    while i < 4 {
-        n = open_in(marks, noted, n, i, p);
-        i += 1;
-    }
-    n
+    let cell = match set {
+        ClauseSet::Minimal => 0,
+        ClauseSet::Extended => list_run(marks, list, beside, table, 0, 0, p, 0, 9),
+    };
+    let column = list_run(marks, list, beside, table, cell, 1, p, 0, 9);
+    let row = list_run(marks, list, beside, table, column, 2, p, 0, 9);
+    let upper = list_run(marks, list, beside, table, row, 3, p, 0, 3);
+    let middle = list_run(marks, list, beside, table, upper, 3, p, 3, 6);
+    list_run(marks, list, beside, table, middle, 3, p, 6, 9)
 }
 
 // A place becomes false, if it is not.
 fn strike(
     marks: &mut [u8; 729],
     sums: &mut [u16; 324],
-    list: &mut [u16; 2916],
+    list: &mut [u16; 2952],
     work: Work,
     set: ClauseSet,
     q: usize,
@@ -133,34 +161,33 @@ fn strike(
     }
 }
 
-// The places that are noted become false.
+// All pairs that are listed act: the place beside each becomes false. The last one goes first: a count that only falls costs less.
 fn strike_all(
     marks: &mut [u8; 729],
     sums: &mut [u16; 324],
-    list: &mut [u16; 2916],
+    list: &mut [u16; 2952],
     work: Work,
     set: ClauseSet,
-    noted: &[u16; 36],
+    beside: &[u16; 36],
     count: usize,
 ) -> Work
-    requires { ⌜ Ready set (λ x. ⊥) (now marks) (now sums) (now list) work × (count ≤ 36)
-        × ((i : ℕ) → i < count → (getD (now noted) i 0 < 729) × (True (now marks) (getD (now noted) i 0) → ⊥)) ⌝ }
-    ensures { λ r. ⌜ Strikes set (Listed (now (noted .entry)) count) (now (marks .entry)) (now (marks .exit)) (now (sums .exit)) (now (list .exit)) r ⌝ }
+    requires { ⌜ Ready set (λ x. ⊥) (now marks) (now sums) (now list) work × PairsReady set (now marks) (now list) (now beside) count ⌝ }
+    ensures { λ r. ⌜ Strikes set (Listed (now (beside .entry)) count) (now (marks .entry)) (now (marks .exit)) (now (sums .exit)) (now (list .exit)) r ⌝ }
 {
     let mut w = work;
-    let mut i = 0;
-    while i < count {
-        w = strike(marks, sums, list, w, set, wide(noted[i]));
-        i += 1;
+    let mut left = count;
+    while left != 0 {
+        left -= 1;
+        w = strike(marks, sums, list, w, set, wide(beside[left]));
     }
     w
 }
 
-// An undecided place becomes true, and strikes the others of its groups.
+// An undecided place becomes true, and its pairs strike the others of its groups.
 pub fn affirm(
     marks: &mut [u8; 729],
     sums: &mut [u16; 324],
-    list: &mut [u16; 2916],
+    list: &mut [u16; 2952],
     work: Work,
     set: ClauseSet,
     p: usize,
@@ -170,7 +197,8 @@ pub fn affirm(
         × (work .decided < r .decided) ⌝ }
 {
     let raised = assign(marks, sums, list, work, set, p, 1);
-    let mut noted = [0u16; 36];
-    let count = open_places(&*marks, &mut noted, set, p);
-    strike_all(marks, sums, list, raised, set, &noted, count)
+    let table = pair_table();
+    let mut beside = [0u16; 36];
+    let count = list_pairs(&*marks, list, &mut beside, &table, set, p);
+    strike_all(marks, sums, list, raised, set, &beside, count)
 }

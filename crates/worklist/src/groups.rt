@@ -2,8 +2,8 @@
 // stand: a slot for each group, in the order of document 01's numbers.
 use clauses::ClauseSet;
 ghost use mathlib.Core.Path.{_≡_};
-ghost use Prim.Native.Nat.{ℕ, _<_};
-ghost use Rattle.worklist.specs.Groups.{groupAt, placeAlong, LineOf, kindAt, firstPair, nineKinds, slotAt, clauseIn};
+ghost use Prim.Native.Nat.{ℕ, _/_, _<_};
+ghost use Rattle.worklist.specs.Groups.{groupAt, placeAlong, LineOf, kindAt, nineKinds, rowAt, firstNumber, pairTable, slotAt, clauseIn};
 
 // The cell of a place, and the column, the row and the box of its cell for its digit.
 pub enum Kind {
@@ -25,16 +25,6 @@ pub(crate) fn kind_at(i: usize) -> Kind
         Kind::Row
     } else {
         Kind::Box
-    }
-}
-
-// From which kind on a set has the pairs.
-pub(crate) fn first_pair(set: ClauseSet) -> usize
-    ensures { λ r. ⌜ r ≡ firstPair set ⌝ }
-{
-    match set {
-        ClauseSet::Minimal => 1,
-        ClauseSet::Extended => 0,
     }
 }
 
@@ -92,6 +82,217 @@ pub(crate) fn place_in(line: Line, k: usize) -> usize
     line.first + line.far * (k / 3) + line.near * (k % 3)
 }
 
+// The row of place p in the table of pairs, for the group of that kind.
+pub(crate) fn row_at(kind: Kind, p: usize) -> usize
+    requires { ⌜ p < 729 ⌝ }
+    ensures { λ r. ⌜ r ≡ rowAt kind p ⌝ }
+{
+    match kind {
+        Kind::Cell => 9 * (p % 9),
+        Kind::Column => 9 * (p / 81),
+        Kind::Row => 9 * (p / 9 % 9),
+        Kind::Box => 81 + 9 * (3 * (p / 81 % 3) + p / 9 % 3),
+    }
+}
+
+// The number from which on the pairs of p with the places of a third of its group are counted: a box has those in one row of it apart.
+pub(crate) fn first_number(kind: Kind, p: usize, third: usize) -> usize
+    requires { ⌜ p < 729 ⌝ }
+    ensures { λ r. ⌜ r ≡ firstNumber kind p third ⌝ }
+{
+    match kind {
+        Kind::Cell => 8829 + 36 * (p / 9),
+        Kind::Column => 81 + 36 * (p % 81),
+        Kind::Row => 2997 + 36 * (9 * (p / 81) + p % 9),
+        Kind::Box => {
+            let q = 9 * (p % 9) + (3 * (p / 243) + p / 27 % 3);
+            if third == p / 81 % 3 {
+                5913 + 9 * q
+            } else {
+                6642 + 27 * q
+            }
+        }
+    }
+}
+
+// The table of pairs: by row and column, the index of each pair of nine places, and then of each in a box.
+pub(crate) fn pair_table() -> [u8; 162]
+    ensures { λ r. ⌜ r ≡ pairTable ⌝ }
+{
+    [
+        0,
+        0,
+        1,
+        2,
+        3,
+        4,
+        5,
+        6,
+        7,
+        0,
+        8,
+        8,
+        9,
+        10,
+        11,
+        12,
+        13,
+        14,
+        1,
+        8,
+        15,
+        15,
+        16,
+        17,
+        18,
+        19,
+        20,
+        2,
+        9,
+        15,
+        21,
+        21,
+        22,
+        23,
+        24,
+        25,
+        3,
+        10,
+        16,
+        21,
+        26,
+        26,
+        27,
+        28,
+        29,
+        4,
+        11,
+        17,
+        22,
+        26,
+        30,
+        30,
+        31,
+        32,
+        5,
+        12,
+        18,
+        23,
+        27,
+        30,
+        33,
+        33,
+        34,
+        6,
+        13,
+        19,
+        24,
+        28,
+        31,
+        33,
+        35,
+        35,
+        7,
+        14,
+        20,
+        25,
+        29,
+        32,
+        34,
+        35,
+        36,
+        0,
+        0,
+        1,
+        0,
+        1,
+        2,
+        3,
+        4,
+        5,
+        0,
+        1,
+        2,
+        6,
+        7,
+        8,
+        9,
+        10,
+        11,
+        1,
+        2,
+        3,
+        12,
+        13,
+        14,
+        15,
+        16,
+        17,
+        0,
+        6,
+        12,
+        3,
+        3,
+        4,
+        18,
+        19,
+        20,
+        1,
+        7,
+        13,
+        3,
+        4,
+        5,
+        21,
+        22,
+        23,
+        2,
+        8,
+        14,
+        4,
+        5,
+        6,
+        24,
+        25,
+        26,
+        3,
+        9,
+        15,
+        18,
+        21,
+        24,
+        6,
+        6,
+        7,
+        4,
+        10,
+        16,
+        19,
+        22,
+        25,
+        6,
+        7,
+        8,
+        5,
+        11,
+        17,
+        20,
+        23,
+        26,
+        7,
+        8,
+        9,
+    ]
+}
+
+// A third of a number below nine.
+fn third(n: usize) -> usize
+    requires { ⌜ n < 9 ⌝ }
+    ensures { λ r. ⌜ r ≡ n / 3 ⌝ }
+{
+    n * 11 / 32
+}
+
 // The slot of the group of that kind at place p.
 pub(crate) fn slot_at(kind: Kind, p: usize) -> usize
     requires { ⌜ p < 729 ⌝ }
@@ -101,7 +302,7 @@ pub(crate) fn slot_at(kind: Kind, p: usize) -> usize
         Kind::Cell => p / 9,
         Kind::Column => 81 + p % 81,
         Kind::Row => 162 + (9 * (p / 81) + p % 9),
-        Kind::Box => 243 + (9 * (p % 9) + (3 * (p / 243) + p / 27 % 3)),
+        Kind::Box => 243 + (9 * (p % 9) + (3 * third(p / 81) + third(p / 9 % 9))),
     }
 }
 
@@ -115,6 +316,13 @@ pub(crate) fn clause_in(slot: usize) -> u16
     } else {
         (slot + 11664) as u16
     }
+}
+
+// A number of one byte, as an index.
+pub(crate) fn narrow(n: u8) -> usize
+    ensures { λ r. ⌜ r ≡ n ⌝ }
+{
+    n as usize
 }
 
 // A number of two bytes, as an index.

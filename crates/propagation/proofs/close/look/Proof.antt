@@ -13,8 +13,8 @@ module _ (s : tie.Start) where
   abbrev slotOf : ℕ
   slotOf = let a = s .args in slot (a .set) (a .marks .now) (a .sums .now) (a .list .now) (a .work) (s .pre .0) (s .pre .2)
 
-  below : s .args .work .listed - 1 < 2916
-  below = let a = s .args in last-below (a .set) (a .marks .now) (a .sums .now) (a .list .now) (a .work) (s .pre .0) (s .pre .2)
+  below : s .args .work .listed - 1 < 2952
+  below = let a = s .args in omega (arith, last-below (a .set) (a .marks .now) (a .sums .now) (a .list .now) (a .work) (s .pre .0) (s .pre .2))
 
   small : slotOf < 324
   small = let a = s .args in slot-small (a .set) (a .marks .now) (a .sums .now) (a .list .now) (a .work) (s .pre .0) (s .pre .2)

@@ -1,7 +1,10 @@
 -- Each arm is the slot of its kind.
-use mathlib.Core.Path.{ap, sym}
+use mathlib.Core.Path.{_≡_, ap, sym, _∙_}
+use Prim.Native.Nat.{_+_, _*_, _/_, _%_}
+use native.Mathlib.Omega.{arith}
 use borrow.Author.Needs.{needs}
 use Rattle.worklist.specs.Groups.{slotAt}
+use Rattle.worklist.proofs.Slots.{box-row, box-column}
 use Rattle.worklist.proofs.groups.slot_at.Statement.{statement}
 use Rattle.worklist.proofs.groups.slot_at.Tie as tie
 
@@ -19,10 +22,15 @@ returns-3 c = ap (λ f. slotAt f (c .before .before .args .p)) (sym (c .enum-tol
 
 returns-4 : tie.Need-returns-4
 unfolding slotAt
-returns-4 c = ap (λ f. slotAt f (c .before .before .args .p)) (sym (c .enum-told4 .given .1))
+returns-4 c =
+    let d = c .before .before in
+    let p = d .before .before .args .p in
+    let e : c .before .third .result ≡ p / 243 = c .before .third .ensures ∙ box-row p in
+    let f : c .third2 .result ≡ p / 27 % 3 = c .third2 .ensures ∙ box-column p in
+    ap (λ x. 243 + (9 * (p % 9) + (3 * x + c .third2 .result))) e ∙ ap (λ x. 243 + (9 * (p % 9) + (3 * (p / 243) + x))) f ∙ ap (λ f. slotAt f p) (sym (d .enum-told4 .given .1))
 
 pub slot-at-spec : {M : Type 1} → statement M
 slot-at-spec =
     tie.close
     (tie.spec (λ c. search needs) (λ c. search needs) (λ c. search needs) (λ c. search needs) (λ c. search needs) (λ c. search needs) (λ c. search needs)
-    (λ c. search needs) (λ c. search needs) (λ c. search needs) (λ c. search needs) (λ c. search needs) (λ c. search needs) returns returns-2 returns-3 returns-4)
+    (λ c. search needs) (λ c. search needs) (λ c κs. omega (arith, c .before .before .pre)) (λ c. search needs) (λ c κs. omega arith) (λ c. search needs) (λ c. search needs) (λ c. search needs) returns returns-2 returns-3 returns-4)
