@@ -59,24 +59,8 @@ fn groups(p: u16) -> [u16; 4] {
     ]
 }
 
-/// The number of a group's clause, and the group of a clause: F1 comes first, F7 to F9 last.
-#[inline(always)]
-fn clause_of(group: u16) -> u16 {
-    if group < 81 {
-        group
-    } else {
-        group + 11_664
-    }
-}
-
-#[inline(always)]
-fn group_of(clause: u16) -> u16 {
-    if clause < 11_664 {
-        clause
-    } else {
-        clause - 11_664
-    }
-}
+/// How far the numbers of F7 to F9 are above their groups; F1's are the same.
+const ABOVE: u16 = 11_664;
 
 /// The index of a pair of nine places among the 36, the lower first.
 const fn pair_index(low: usize, high: usize) -> u16 {
@@ -186,12 +170,13 @@ impl<const EXTENDED: bool> Closing<EXTENDED> {
     #[inline(always)]
     fn assign(&mut self, state: &mut State, p: usize, mark: u8, more: u16) {
         let nines = if EXTENDED { 4 } else { 1 };
-        for &group in &groups(p as u16)[..nines] {
+        for (kind, &group) in groups(p as u16)[..nines].iter().enumerate() {
+            let clause = if kind == 0 { group } else { group + ABOVE };
             // SAFETY: a group is below 324, and each of the 729 places lists four clauses at most.
             unsafe {
                 let sum = state.sums.get_unchecked_mut(usize::from(group));
                 *sum = sum.wrapping_add(more);
-                *self.list.get_unchecked_mut(self.listed) = clause_of(group);
+                *self.list.get_unchecked_mut(self.listed) = clause;
                 self.listed += usize::from(*sum < 2 * OPEN);
             }
         }
@@ -243,7 +228,13 @@ impl<const EXTENDED: bool> Closing<EXTENDED> {
     fn propagate(&mut self, state: &mut State) -> bool {
         while self.listed > 0 {
             self.listed -= 1;
-            match state.sums[usize::from(group_of(self.list[self.listed]))] {
+            let clause = self.list[self.listed];
+            let group = if clause < ABOVE {
+                clause
+            } else {
+                clause - ABOVE
+            };
+            match state.sums[usize::from(group)] {
                 0 => return false,
                 sum if sum < 2 * OPEN => self.affirm(state, usize::from(sum - OPEN)),
                 _ => {}

@@ -16,7 +16,7 @@ use Rattle.grid.specs.Completion.{times, isLegal}
 use Rattle.grid.specs.Examples.{G}
 use Rattle.grid.proofs.Counting.{all-iff}
 use Rattle.grid.proofs.Completion.{legal-iff}
-use Rattle.literals.specs.Literal.{Literal}
+use Rattle.clauses.specs.Literal.{Literal}
 use Rattle.clauses.specs.Clauses.{clausesOf}
 use Rattle.clauses.specs.Models.{holds, givens, truthOf}
 use Rattle.clauses.specs.declared.ClauseSet.{ClauseSet}

@@ -15,10 +15,10 @@ use lib.Dec.{T, leb}
 use lib.IntN.{ℤ, pos, negℤ}
 use lib.ListN.{length}
 use Rattle.grid.proofs.Table.{false-is}
-use Rattle.literals.specs.Literal.{Literal}
-use Rattle.literals.proofs.Signed.{negation-literal}
+use Rattle.clauses.specs.Literal.{Literal}
 use Rattle.clauses.specs.Clauses.{Clause}
 use Rattle.clauses.specs.Models.{Truth, holds, Satisfies}
+use Rattle.clauses.proofs.Signed.{negation-literal}
 use Rattle.closure.specs.Closure.{UnitClosed}
 use Rattle.closure.specs.Marks.{has, isDecided, mark, decidedIn, blank}
 use Rattle.closure.specs.Propagation.{Answer, clash, closed, unitClosure, join, Closes}

@@ -5,3 +5,4 @@ pub mod ModelsAreCompletions
 pub mod Numbers
 pub mod ShapeNumber
 pub mod Proper
+pub mod Signed

@@ -15,7 +15,7 @@ use lib.ListN.{length, getD}
 use borrow.Author.Tests.{le-leb}
 use Rattle.grid.specs.Grid.{byte, isDigit, digitOf}
 use Rattle.grid.proofs.Completion.{digit-iff}
-use Rattle.literals.specs.Literal.{Literal}
+use Rattle.clauses.specs.Literal.{Literal}
 use Rattle.clauses.specs.Clauses.{Clause, range, over, clausesOf}
 use Rattle.clauses.specs.Models.{Truth, holds, givenAt, givens}
 use Rattle.clauses.specs.Shape.{IsShape, InSet, clauseOf, shapeOf, boxOf, rowsPair, numberOf}

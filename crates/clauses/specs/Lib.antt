@@ -1,3 +1,4 @@
+pub mod Literal
 pub mod Clauses
 pub mod Call
 pub mod Models

@@ -84,13 +84,15 @@ shapeOf n =
     (cond (ltb n 11826) (OneOf (columnOf (n - 11745)))
     (cond (ltb n 11907) (OneOf (rowOf (n - 11826))) (OneOf (boxOf (n - 11907))))))))))
 
--- the index of the pair i < j of nine places; in a box, that of a pair in one row of it, and that of a pair in two
+-- the index of the pair i < j among the 36 of nine places
 abbrev pub pairIndex : ℕ → ℕ → ℕ
 pairIndex i j = i * (17 - i) / 2 + (j - i - 1)
 
+-- its index among the nine of a box in one row of it, as F4 lists them
 abbrev pub rowIndex : ℕ → ℕ → ℕ
 rowIndex i j = 3 * (i / 3) + (i % 3 + j % 3 - 1)
 
+-- its index among the 27 of a box in two rows, as F5 lists them
 abbrev pub rowsIndex : ℕ → ℕ → ℕ
 rowsIndex i j = 18 * (i / 3) + (6 - 3 * (i / 3)) * (i % 3) + 3 * (j / 3 - i / 3 - 1) + j % 3
 

@@ -1,6 +1,7 @@
 // The shape of a clause, by arithmetic on its number, and its literals.
 use crate::Group;
 use crate::Shape;
+use crate::literal;
 ghost use mathlib.Core.Path.{_≡_};
 ghost use Prim.Native.Nat.{_<_};
 ghost use mathlib.Core.List.{_∷_, []};
@@ -175,7 +176,7 @@ fn fill_group(group: Group, out: &mut [i16])
 {
     let mut k = 0;
     while k < 9 {
-        out[k] = literals::positive(place(group, k));
+        out[k] = literal::positive(place(group, k));
         k += 1;
     }
 }
@@ -185,8 +186,8 @@ fn fill_pair(first: usize, second: usize, out: &mut [i16])
     requires { ⌜ (first < 729) × (second < 729) × (length (now out) ≡ 9) ⌝ }
     ensures { λ _. ⌜ now (out .exit) ≡ padded (negsuc first ∷ negsuc second ∷ []) ⌝ }
 {
-    out[0] = literals::negative(first);
-    out[1] = literals::negative(second);
+    out[0] = literal::negative(first);
+    out[1] = literal::negative(second);
     let mut k = 2;
     while k < 9 {
         out[k] = 0;

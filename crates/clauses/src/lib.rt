@@ -1,8 +1,10 @@
-// The two numbered clause sets.
+// Literals and the two numbered clause sets.
 //
 //     clause        the clause call: a set's clause by its number, refusals 43 to 45
+//     literal       literals as signed 16-bit numbers
 //     decode        a clause's group and places by arithmetic on its number
 pub mod decode;
+pub mod literal;
 
 use grid::Refusal;
 ghost use mathlib.Core.Path.{_≡_};

@@ -8,7 +8,7 @@ use native.Mathlib.Omega.{arith}
 use lib.IntN.{ℤ, pos, negsuc}
 use Rattle.grid.specs.House.{cellOf}
 use Rattle.grid.proofs.House.{row-cell, column-cell, box-cell, by-house, cell-below}
-use Rattle.literals.specs.Literal.{Literal}
+use Rattle.clauses.specs.Literal.{Literal}
 use Rattle.clauses.specs.Clauses.{clausesOf}
 use Rattle.clauses.specs.Shape.{placeOf, IsGroup, IsShape, clauseOf}
 use Rattle.clauses.specs.declared.ClauseSet.{ClauseSet}

@@ -7,7 +7,7 @@ use mathlib.Core.List.{List, List·Memᴰ}
 use Prim.Native.Nat.{zero, suc}
 use lib.Dec.{T, T-not}
 use lib.IntN.{ℤ, pos, negsuc, negℤ}
-use Rattle.literals.specs.Literal.{Literal}
+use Rattle.clauses.specs.Literal.{Literal}
 use Rattle.clauses.specs.Clauses.{Clause}
 use Rattle.clauses.specs.Models.{Truth, holds, Satisfies}
 use Rattle.closure.specs.Sets.{LiteralSet, Holds, Least}

@@ -15,9 +15,9 @@ use native.Mathlib.Decide.{ℕ-discrete}
 use lib.Dec.{T, eqb}
 use lib.IntN.{ℤ, pos, negsuc, negℤ, negℤ-negℤ}
 use Rattle.grid.specs.Counting.{tick}
-use Rattle.literals.specs.Literal.{Literal}
-use Rattle.literals.proofs.Signed.{negation-literal}
+use Rattle.clauses.specs.Literal.{Literal}
 use Rattle.clauses.specs.Clauses.{Clause}
+use Rattle.clauses.proofs.Signed.{negation-literal}
 use Rattle.closure.specs.Sets.{LiteralSet, Holds, Within, Least, IsLeast}
 use Rattle.closure.specs.Closure.{Contradiction, With, UnitClosed, Rules}
 use Rattle.closure.specs.Marks.{has, isDecided, put, mark, decidedIn, decided, blank, IsMarks}

@@ -14,7 +14,7 @@ use lib.ListN.{length, getD, set, replicate, length-set, length-replicate, List�
 use lib.Seq.{ext-getD}
 use Rattle.grid.specs.Counting.{total, tally}
 use Rattle.grid.proofs.Completion.{eq-iff}
-use Rattle.literals.specs.Literal.{Literal}
+use Rattle.clauses.specs.Literal.{Literal}
 use Rattle.closure.specs.Closure.{Contradiction, With}
 use Rattle.closure.specs.Marks.{has, put, mark, decidedIn, decided, blank, IsMarks}
 use Rattle.closure.proofs.Tally.{tally-first, tally-compare, tally-true}

@@ -12,7 +12,7 @@ use lib.IntN.{ℤ, pos, negsuc}
 use lib.ListN.{length, getD}
 use Rattle.grid.specs.Counting.{tally}
 use Rattle.grid.proofs.Counting.{tally-some, tally-find, tally-most, square-columns}
-use Rattle.literals.specs.Literal.{Literal}
+use Rattle.clauses.specs.Literal.{Literal}
 use Rattle.clauses.proofs.Members.{member-at}
 use Rattle.closure.proofs.Clauses.{NoneTwice}
 

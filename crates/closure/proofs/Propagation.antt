@@ -11,9 +11,9 @@ use borrow.Author.Tests.{eq-eqb, ne-eqb}
 use native.Mathlib.Decide.{ℕ-discrete}
 use lib.Dec.{T, eqb}
 use lib.IntN.{ℤ, pos, negsuc, negℤ, ℤ-discrete}
-use Rattle.literals.specs.Literal.{Literal}
-use Rattle.literals.proofs.Signed.{negation-literal}
+use Rattle.clauses.specs.Literal.{Literal}
 use Rattle.clauses.specs.Clauses.{Clause}
+use Rattle.clauses.proofs.Signed.{negation-literal}
 use Rattle.closure.specs.Sets.{LiteralSet, Holds, Within, Least, IsLeast}
 use Rattle.closure.specs.Closure.{Contradiction, UnitClosed}
 use Rattle.closure.specs.Marks.{has, put, mark, decidedIn, decided, blank, IsMarks}

@@ -8,7 +8,7 @@ use mathlib.Core.List.{List, [], _∷_, List·Memᴰ, List·Memᴰ·head, List·
 use Prim.Native.Nat.{ℕ, zero, suc}
 use lib.Dec.{T, not-T}
 use lib.IntN.{ℤ, pos, negsuc, negℤ}
-use Rattle.literals.specs.Literal.{Literal}
+use Rattle.clauses.specs.Literal.{Literal}
 use Rattle.clauses.specs.Clauses.{Clause}
 use Rattle.clauses.specs.Models.{Truth, holds, Satisfies}
 use Rattle.closure.specs.Sets.{LiteralSet, Holds}

@@ -10,7 +10,7 @@ use native.Mathlib.Omega.{arith}
 use lib.Dec.{T, eqb, T-not, not-T}
 use lib.IntN.{ℤ, pos, negsuc, negℤ, ℤ-discrete}
 use Rattle.grid.specs.Counting.{tick, tally}
-use Rattle.literals.specs.Literal.{Literal}
+use Rattle.clauses.specs.Literal.{Literal}
 use Rattle.clauses.specs.Clauses.{Clause}
 use Rattle.closure.specs.Sets.{LiteralSet}
 use Rattle.closure.specs.Marks.{has, isDecided, mark, decided}

@@ -6,7 +6,7 @@ use mathlib.Core.List.{List, List·Memᴰ}
 use Prim.Native.Nat.{ℕ, suc}
 use lib.Dec.{T}
 use lib.IntN.{ℤ, pos, negsuc, negℤ}
-use Rattle.literals.specs.Literal.{Literal}
+use Rattle.clauses.specs.Literal.{Literal}
 use Rattle.clauses.specs.Clauses.{Clause}
 use Rattle.closure.specs.Sets.{LiteralSet, Least}
 

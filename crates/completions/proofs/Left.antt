@@ -14,7 +14,7 @@ use Rattle.grid.specs.Grid.{byte, isDigit}
 use Rattle.grid.specs.Completion.{Legal}
 use Rattle.grid.proofs.Counting.{all-iff}
 use Rattle.grid.proofs.Completion.{digit-iff, eq-iff}
-use Rattle.literals.specs.Literal.{Literal}
+use Rattle.clauses.specs.Literal.{Literal}
 use Rattle.clauses.specs.Clauses.{Clause, clausesOf}
 use Rattle.clauses.specs.Models.{holds, Satisfies, givens, truthOf}
 use Rattle.clauses.specs.declared.ClauseSet.the-variants.{Extended}

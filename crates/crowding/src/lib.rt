@@ -4,7 +4,7 @@
 //     crowded    whether some house is found to be crowded
 use clauses::Group;
 use clauses::decode::place;
-use worklist::groups::wide;
+use groups::wide;
 ghost use mathlib.Core.Path.{_≡_};
 ghost use mathlib.Core.Bool.{true, not, _||_};
 ghost use mathlib.Core.List.{List};

@@ -10,7 +10,7 @@ use Rattle.grid.specs.Completion.{Legal}
 use Rattle.completions.specs.Completions.{completions, Before, InOrder}
 use Rattle.completions.proofs.ByteOrder.{before-once}
 use Rattle.completions.proofs.Completions.{completions-in-order}
-use Rattle.search.specs.Search.{foundOf}
+use Rattle.exploration.specs.Search.{foundOf}
 use Rattle.demands.specs.Searches.{Reports}
 
 reports-list : (g : List ℕ) (bs : List (List ℕ)) → InOrder (Legal g) bs → Reports g (foundOf bs)

@@ -5,7 +5,7 @@ use mathlib.Core.List.{List}
 use Prim.Native.Nat.{ℕ}
 use Rattle.grid.specs.Completion.{Legal}
 use Rattle.completions.specs.Completions.{Before}
-use Rattle.search.specs.declared.find.Found.{Found}
+use Rattle.exploration.specs.declared.Found.{Found}
 
 -- The search reports none, one or several exactly as they exist. What it gives first is the smallest of all, and what it gives second is
 -- the smallest of the others.

@@ -9,8 +9,8 @@ use lib.Dec.{T}
 use lib.IntN.{ℤ, pos, negsuc}
 use lib.ListN.{length, getD}
 use Rattle.grid.specs.Completion.{Legal}
-use Rattle.literals.specs.Literal.{Literal}
 use Rattle.clauses.specs.Clauses.{clausesOf}
+use Rattle.clauses.specs.Literal.{Literal}
 use Rattle.clauses.specs.Models.{givens, holds, truthOf}
 use Rattle.closure.specs.Job.{End, jobEnd, countOf}
 use Rattle.closure.proofs.Ceiling.{count-below}
@@ -18,8 +18,8 @@ use Rattle.worklist.proofs.Literals.{index-place}
 use Rattle.trials.specs.Known.{Named, CompletionOk}
 use Rattle.completions.specs.Completions.{completions}
 use Rattle.completions.proofs.Completions.{completions-in-order}
-use Rattle.search.specs.Search.{zeros, foundOf}
-use Rattle.search.specs.declared.find.Found.{Found}
+use Rattle.exploration.specs.Search.{zeros, foundOf}
+use Rattle.exploration.specs.declared.Found.{Found}
 use Rattle.grading.specs.Grade.{stages, afterJob, rateFrom, MarksOf, Given, gradeBy, gradeOf}
 use Rattle.grading.specs.declared.Stage.{Stage}
 use Rattle.grading.specs.declared.Rating.{Rating}

@@ -14,7 +14,7 @@ use Rattle.closure.specs.Job.{End, solved, opened, stopped, contradiction, jobE
 use Rattle.orders.specs.Order.{orderCheck}
 use Rattle.orders.specs.Technique.{unitMinimal, unitExtended, trialsMinimal, trialsExtended}
 use Rattle.completions.specs.Completions.{completions}
-use Rattle.search.specs.Search.{zeros}
+use Rattle.exploration.specs.Search.{zeros}
 use Rattle.grading.specs.declared.Stage.{Stage}
 use Rattle.grading.specs.declared.Rating.{Rating}
 use Rattle.grading.specs.declared.GradeAnswer.{GradeAnswer}

@@ -3,6 +3,7 @@
 //
 //     grade          the grading call, with its refusals
 //     GradeAnswer    what it answers
+use exploration::find;
 use grid::Checked;
 use grid::Refusal;
 use grid::check_grid;
@@ -10,7 +11,6 @@ use grid::copy::copy_out;
 use inference::job::run_with;
 use orders::order::check_order;
 use orders::technique::Technique;
-use search::find::find;
 use trials::trial::End;
 ghost use mathlib.Core.Path.{_≡_};
 ghost use mathlib.Core.List.{_∷_};

@@ -9,7 +9,7 @@ use native.Mathlib.Omega.{arith}
 use lib.ListN.{getD}
 use Rattle.grid.specs.declared.Refusal.{Refusal}
 use Rattle.orders.specs.Order.{defaultOrder, defaultCeiling}
-use Rattle.search.specs.Search.{zeros}
+use Rattle.exploration.specs.Search.{zeros}
 use Rattle.grading.specs.Grade.{Given, gradeCall}
 use Rattle.grading.specs.declared.GradeAnswer.the-variants.{Graded, Refused}
 use Rattle.demands.proofs.NeverStopped.{NotSix, call-verdicts}

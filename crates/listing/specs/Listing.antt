@@ -6,7 +6,7 @@ use Prim.Native.Nat.{ℕ, zero, suc, _+_, _/_, _%_}
 use lib.Dec.{ltb}
 use lib.ListN.{set}
 use Rattle.orders.specs.Order.{defaultOrder, defaultCeiling}
-use Rattle.search.specs.Search.{zeros}
+use Rattle.exploration.specs.Search.{zeros}
 use Rattle.grading.specs.Grade.{gradeCall}
 use Rattle.grading.specs.declared.GradeAnswer.{GradeAnswer}
 use Rattle.grading.specs.declared.GradeAnswer.the-variants.{Graded, Refused}

@@ -18,9 +18,9 @@ use Rattle.grid.proofs.Table.{false-is}
 use Rattle.grid.proofs.First.{all-pass}
 use Rattle.grid.proofs.Least.{Least, least, least-is}
 use Rattle.grid.proofs.Completion.{eq-iff, not-accepted}
-use Rattle.literals.specs.Literal.{Literal, isLiteral}
-use Rattle.literals.proofs.Signed.{literal-iff}
 use Rattle.clauses.specs.Clauses.{range, over}
+use Rattle.clauses.specs.Literal.{Literal, isLiteral}
+use Rattle.clauses.proofs.Signed.{literal-iff}
 use Rattle.orders.specs.Order.{defaultOrder, firstNoLiteral, same, repeats, firstRepeat, orderCheck}
 use Rattle.orders.specs.Place.{tablePlace}
 

@@ -13,7 +13,7 @@ use lib.ListN.{length, getD, set, replicate, getD-replicate, length-set}
 use lib.Seq.{getD-set-same, getD-set-other}
 use Rattle.grid.specs.Counting.{tick}
 use Rattle.grid.proofs.Table.{true-is, false-is}
-use Rattle.literals.specs.Literal.{Literal}
+use Rattle.clauses.specs.Literal.{Literal}
 use Rattle.orders.specs.Order.{same, repeats}
 use Rattle.orders.specs.Place.{tablePlace}
 use Rattle.orders.proofs.Orders.{entry, among, among-none, among-more, same-iff, place-below, place-once}

@@ -9,7 +9,7 @@ use Rattle.grid.specs.Counting.{all, firstAt, leastFrom}
 use Rattle.grid.specs.Refusals.{refusal}
 use Rattle.grid.specs.declared.Checked.{Checked}
 use Rattle.grid.specs.declared.Checked.the-variants.{Accepted, Refused}
-use Rattle.literals.specs.Literal.{isLiteral}
+use Rattle.clauses.specs.Literal.{isLiteral}
 use Rattle.clauses.specs.Clauses.{range, over}
 
 -- +1, −1, +2, −2 to −729

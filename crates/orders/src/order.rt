@@ -1,10 +1,11 @@
 // The order of trials: a list of 1,458 literals, each once.
+use clauses::literal;
 use grid::Checked;
 use grid::Refusal;
 ghost use mathlib.Core.Path.{_≡_};
 ghost use Rattle.grid.specs.Refusals.{refusal};
 ghost use Rattle.grid.specs.declared.Checked.the-variants.{Refused};
-ghost use Rattle.literals.specs.Literal.{Literal};
+ghost use Rattle.clauses.specs.Literal.{Literal};
 ghost use Rattle.orders.specs.Order.{defaultOrder, orderCheck};
 ghost use Rattle.orders.specs.Place.{tablePlace};
 
@@ -21,8 +22,8 @@ pub fn default_order() -> [i16; ENTRIES]
     let mut order = [0i16; ENTRIES];
     let mut k = 0;
     while k < 729 {
-        order[2 * k] = literals::positive(k);
-        order[2 * k + 1] = literals::negative(k);
+        order[2 * k] = literal::positive(k);
+        order[2 * k + 1] = literal::negative(k);
         k += 1;
     }
     order
@@ -40,7 +41,7 @@ fn table_place(l: i16) -> usize
     requires { ⌜ Literal l ⌝ }
     ensures { λ r. ⌜ r ≡ tablePlace l ⌝ }
 {
-    let mark = literals::mark_index(l);
+    let mark = literal::mark_index(l);
     if l < 0 { 2 * mark + 1 } else { 2 * mark }
 }
 
@@ -57,7 +58,7 @@ pub fn check_order(order: &[i16]) -> Checked
     let mut i = 0;
     while i < ENTRIES {
         let l = order[i];
-        if !literals::is_literal(l) {
+        if !literal::is_literal(l) {
             return refused(23, i);
         }
         let at = table_place(l);

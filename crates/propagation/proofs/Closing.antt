@@ -10,8 +10,8 @@ use native.Mathlib.Omega.{arith}
 use lib.Dec.{T}
 use lib.IntN.{ℤ, pos, negsuc, negℤ}
 use lib.ListN.{length, set}
-use Rattle.literals.specs.Literal.{Literal}
 use Rattle.clauses.specs.Clauses.{clausesOf}
+use Rattle.clauses.specs.Literal.{Literal}
 use Rattle.clauses.specs.Models.{givens}
 use Rattle.clauses.specs.Shape.{placeOf}
 use Rattle.clauses.specs.declared.ClauseSet.{ClauseSet}
@@ -25,11 +25,11 @@ use Rattle.closure.proofs.Closure.{contradiction-mono}
 use Rattle.closure.proofs.Marks.{has-single, has-mark, is-marks-mark, or-iff}
 use Rattle.closure.proofs.ClauseSets.{well-formed}
 use Rattle.closure.proofs.Propagation.{InMarks, unit-closure-ok, unit-closure-marks, closes-same, closes-unique, givens-closed}
-use Rattle.worklist.specs.Groups.{groupAt, groupIn, indexAt, kindAt, numberOf, slotAt, PairKind}
+use Rattle.groups.specs.Groups.{groupAt, groupIn, indexAt, kindAt, numberOf, slotAt, PairKind}
 use Rattle.worklist.specs.Sums.{InSlots, sumOf}
 use Rattle.worklist.specs.Acting.{True, False, Undecided, Ready, Struck, Stepped}
 use Rattle.worklist.specs.declared.acting.Work.{Work}
-use Rattle.worklist.proofs.Slots.{number-at, at-number, number-below, index-at, place-at, group-same, slot-group, slot-in, place-once}
+use Rattle.groups.proofs.Slots.{number-at, at-number, number-below, index-at, place-at, group-same, slot-group, slot-in, place-once}
 use Rattle.worklist.proofs.Sums.{sum-small, sum-large, byte-true}
 use Rattle.worklist.proofs.Rules.{closed-strikes, groups-closed}
 use Rattle.worklist.proofs.Literals.{has-set}

@@ -27,9 +27,9 @@ use Rattle.closure.specs.Propagation.{closed, Closes}
 use Rattle.closure.proofs.Sets.{least-given, least-mono}
 use Rattle.closure.proofs.Marks.{zeros, has-blank, is-marks-blank}
 use Rattle.closure.proofs.Propagation.{closes-same}
-use Rattle.worklist.specs.Groups.{groupIn}
+use Rattle.groups.specs.Groups.{groupIn}
 use Rattle.worklist.specs.Sums.{weight, sumOf, SumsOk}
-use Rattle.worklist.proofs.Slots.{nines-below}
+use Rattle.groups.proofs.Slots.{nines-below}
 use Rattle.worklist.proofs.Rules.{groups-closed}
 use Rattle.propagation.specs.Steps.{StateOk, answerOf, ClosesTo}
 use Rattle.propagation.specs.declared.close.Reached.{Reached}

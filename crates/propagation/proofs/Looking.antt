@@ -19,11 +19,11 @@ use Rattle.closure.specs.Marks.{has}
 use Rattle.closure.proofs.Sets.{least-given, least-within}
 use Rattle.closure.proofs.Closure.{contradiction-mono}
 use Rattle.closure.proofs.Marks.{decided-bounded}
-use Rattle.worklist.specs.Groups.{groupIn, clauseIn}
+use Rattle.groups.specs.Groups.{groupIn, clauseIn}
 use Rattle.worklist.specs.Sums.{InSlots, sumOf}
 use Rattle.worklist.specs.Acting.{AllBut, Listed, At, Undecided, Ready, Struck, Follows, Clashes, Stepped}
 use Rattle.worklist.specs.declared.acting.Work.{Work}
-use Rattle.worklist.proofs.Slots.{nines-below, slot-place, by-slot, clause-once}
+use Rattle.groups.proofs.Slots.{nines-below, slot-place, by-slot, clause-once}
 use Rattle.worklist.proofs.Sums.{sum-small}
 use Rattle.worklist.proofs.Rules.{Lasts, closed-lasts}
 use Rattle.worklist.proofs.Literals.{has-set}

@@ -1,19 +1,20 @@
 // Unit closures: of marks with one literal more, and of a grid's givens. The clauses that are listed are looked at one by one, until none is
 // left or one is a contradiction.
 use clauses::ClauseSet;
+use clauses::literal;
 use grid::legal::is_digit;
+use groups::slot_of;
+use groups::wide;
 use worklist::acting::Work;
 use worklist::acting::affirm;
 use worklist::acting::assign;
-use worklist::groups::slot_of;
-use worklist::groups::wide;
 ghost use mathlib.Core.Path.{_≡_};
 ghost use mathlib.Core.List.{List·Memᴰ};
 ghost use Prim.Native.Nat.{suc, _<_};
 ghost use lib.Dec.{T};
 ghost use lib.IntN.{pos};
 ghost use lib.ListN.{length};
-ghost use Rattle.literals.specs.Literal.{Literal};
+ghost use Rattle.clauses.specs.Literal.{Literal};
 ghost use Rattle.clauses.specs.Models.{givens};
 ghost use Rattle.clauses.specs.declared.ClauseSet.the-variants.{Extended};
 ghost use Rattle.closure.specs.Closure.{With};
@@ -114,7 +115,7 @@ pub fn close_with(
     ensures { λ r. ⌜ ClosesTo set (With (has (now (marks .entry))) literal) (now (marks .exit)) (now (sums .exit)) r ⌝ }
 {
     room(&*list);
-    let p = literals::mark_index(literal);
+    let p = literal::mark_index(literal);
     let start = Work { listed: 0, decided };
     let begun = if literal < 0 {
         assign(marks, sums, list, start, set, p, 2)
@@ -143,7 +144,7 @@ pub fn close_true(
     if mark == 2 {
         return Reached::Clash;
     }
-    close_with(marks, sums, list, decided, set, literals::positive(place))
+    close_with(marks, sums, list, decided, set, literal::positive(place))
 }
 
 // The sums where no place is decided: the q-th cell, column, row and box.

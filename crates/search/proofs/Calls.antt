@@ -9,12 +9,12 @@ use Rattle.grid.specs.Refusals.{refusal, onAccepted, gridCheck}
 use Rattle.grid.specs.declared.Checked.{Checked}
 use Rattle.completions.specs.Completions.{completions}
 use Rattle.completions.proofs.Completions.{completions-in-order}
-use Rattle.search.specs.Search.{foundOf}
+use Rattle.exploration.specs.Search.{foundOf}
 use Rattle.search.specs.Call.{Given, counted, refused, searchCall}
-use Rattle.search.specs.declared.find.Found.{Found}
+use Rattle.exploration.specs.declared.Found.{Found}
 use Rattle.search.specs.declared.SearchAnswer.{SearchAnswer}
 use Rattle.search.specs.declared.SearchAnswer.the-variants.{Counted, Refused}
-use Rattle.search.proofs.Found.{found-long}
+use Rattle.exploration.proofs.Finding.{found-long}
 
 module _ (g a b : List ℕ) where
   pub first-short : (r : SearchAnswer) → r ≡ Refused (refusal 42 0) → (length a ≡ 81 → ⊥) → _≡_ {A = Given} (r, a, b) (searchCall g a b)

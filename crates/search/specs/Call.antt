@@ -7,8 +7,8 @@ use lib.ListN.{length}
 use Rattle.grid.specs.Refusals.{refusal, onAccepted, gridCheck}
 use Rattle.grid.specs.declared.Refusal.{Refusal}
 use Rattle.completions.specs.Completions.{completions}
-use Rattle.search.specs.Search.{foundOf}
-use Rattle.search.specs.declared.find.Found.{Found}
+use Rattle.exploration.specs.Search.{foundOf}
+use Rattle.exploration.specs.declared.Found.{Found}
 use Rattle.search.specs.declared.SearchAnswer.{SearchAnswer}
 use Rattle.search.specs.declared.SearchAnswer.the-variants.{Counted, Refused}
 

@@ -2,10 +2,7 @@
 //
 //     search          the search call: none, one or several completions, and the smallest two
 //     SearchAnswer    what it answers
-//     find            what the search finds, in byte order
-pub mod find;
-
-use crate::find::find;
+use exploration::find;
 use grid::Checked;
 use grid::Refusal;
 use grid::check_grid;

@@ -14,7 +14,7 @@ use lib.Dec.{T}
 use lib.IntN.{ℤ, pos, negsuc, negℤ}
 use lib.ListN.{length, getD, replicate, length-replicate}
 use Rattle.grid.proofs.Completion.{eq-iff}
-use Rattle.literals.specs.Literal.{Literal, markIndex}
+use Rattle.clauses.specs.Literal.{Literal, markIndex}
 use Rattle.clauses.specs.Clauses.{clausesOf}
 use Rattle.clauses.specs.Models.{holds, truthOf, givens}
 use Rattle.clauses.proofs.ModelsAreCompletions.{models-are-completions}

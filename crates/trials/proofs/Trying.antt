@@ -10,8 +10,8 @@ use lib.IntN.{ℤ, pos, negℤ, negℤ-negℤ}
 use lib.ListN.{getD}
 use Rattle.grid.proofs.Completion.{eq-iff}
 use Rattle.grid.proofs.Table.{true-is, false-is}
-use Rattle.literals.specs.Literal.{Literal, isLiteral, negation}
-use Rattle.literals.proofs.Signed.{literal-iff}
+use Rattle.clauses.specs.Literal.{Literal, isLiteral, negation}
+use Rattle.clauses.proofs.Signed.{literal-iff}
 use Rattle.clauses.specs.Clauses.{Clause}
 use Rattle.closure.specs.Marks.{has, isDecided, mark, decided, IsMarks}
 use Rattle.closure.specs.Propagation.{Answer, clash, unitClosure}

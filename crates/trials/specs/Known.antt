@@ -7,7 +7,7 @@ use lib.Dec.{T}
 use lib.IntN.{ℤ, pos, negsuc}
 use lib.ListN.{length, getD}
 use Rattle.grid.specs.Completion.{Legal}
-use Rattle.literals.specs.Literal.{Literal, markIndex}
+use Rattle.clauses.specs.Literal.{Literal, markIndex}
 use Rattle.clauses.specs.Clauses.{Clause, clausesOf}
 use Rattle.clauses.specs.Models.{Truth, holds, Satisfies, truthOf}
 use Rattle.clauses.specs.declared.ClauseSet.{ClauseSet}

@@ -1,6 +1,7 @@
 // Trials along an order of literals, in passes, under a ceiling. A trial is made on a copy of the lent marks and their sums, which change only
 // where the negation of a failed literal joins. A trial whose success is known is only counted.
 use clauses::ClauseSet;
+use clauses::literal;
 use propagation::close::Reached;
 use propagation::close::close_with;
 ghost use mathlib.Core.Path.{_≡_};
@@ -10,7 +11,7 @@ ghost use lib.Bits.{bitOr};
 ghost use lib.Dec.{T};
 ghost use lib.IntN.{negℤ};
 ghost use lib.ListN.{length, getD};
-ghost use Rattle.literals.specs.Literal.{Literal};
+ghost use Rattle.clauses.specs.Literal.{Literal};
 ghost use Rattle.clauses.specs.Clauses.{clausesOf};
 ghost use Rattle.closure.specs.Marks.{isDecided, mark, decided as decisions};
 ghost use Rattle.closure.specs.Propagation.{unitClosure};
@@ -89,7 +90,7 @@ fn attempt(
                 list,
                 decided,
                 set,
-                literals::negated(literal),
+                literal::negated(literal),
             );
             match joined {
                 Reached::Decided(more) => {
@@ -136,7 +137,7 @@ fn next(
         ≡ after (step (clausesOf set) ceiling (now (marks .entry)) count literal) (now (marks .entry)) count failed walked)
         × PassOk set ceiling (now (marks .exit)) (now (sums .exit)) (now (known .exit)) (now (possible .entry)) r ⌝ }
 {
-    let at = literals::mark_index(literal);
+    let at = literal::mark_index(literal);
     if marks[at] != 0 {
         return Pass::Walked(decided, count, failed);
     }

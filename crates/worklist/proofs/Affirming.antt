@@ -19,12 +19,12 @@ use Rattle.closure.specs.Sets.{Least}
 use Rattle.closure.specs.Closure.{UnitClosed}
 use Rattle.closure.specs.Marks.{has, IsMarks}
 use Rattle.closure.proofs.Sets.{least-given}
-use Rattle.worklist.specs.Groups.{groupAt, indexAt, kindAt, numberOf, firstPair, pairNumber}
-use Rattle.worklist.specs.Acting.{True, False, Listed, Within, Undecided, Pair, Along, Pairs, Adds, PairsReady, Opened, Strikes, Struck, Stepped}
+use Rattle.groups.specs.Groups.{groupAt, indexAt, kindAt, numberOf, firstPair, pairNumber, Pair}
+use Rattle.worklist.specs.Acting.{True, False, Listed, Within, Undecided, Along, Pairs, Adds, PairsReady, Opened, Strikes, Struck, Stepped}
 use Rattle.worklist.specs.declared.acting.Work.{Work}
-use Rattle.worklist.proofs.Slots.{number-at, at-number, number-below, index-at, place-at, place-once, group-same}
+use Rattle.groups.proofs.Slots.{number-at, at-number, number-below, index-at, place-at, place-once, group-same}
 use Rattle.worklist.proofs.Rules.{closed-strikes}
-use Rattle.worklist.proofs.Pairs.{Paired, pair-clause, clause-pair}
+use Rattle.groups.proofs.Pairs.{Paired, pair-clause, clause-pair}
 use Rattle.worklist.proofs.Sums.{true-byte, false-byte, byte-true, byte-false}
 use Rattle.worklist.proofs.Literals.{has-set}
 use Rattle.worklist.proofs.Striking.{signs-differ}
@@ -46,14 +46,14 @@ first-below Minimal = omega arith
 first-below Extended = omega arith
 
 pairs-within : (a p q c : ℕ) → a ≤ 3 → Pairs a 3 p 9 q c → Within a 4 p q
-pairs-within a p q c h w = ⊎-elim (λ u. (u .0, u .1, omega (arith, u .2), u .3 .0, u .3 .2, u .3 .3)) (λ u. (3, h, omega arith, u .0, u .2, u .3)) w
+pairs-within a p q c h w = ⊎-elim (λ u. (u .0, u .1, omega (arith, u .2), u .3 .0, u .3 .1, u .3 .2)) (λ u. (3, h, omega arith, u .0, u .1, u .2)) w
 
 within-pairs : (a p q : ℕ) (w : Within a 4 p q) → (c : ℕ) × Pairs a 3 p 9 q c
 within-pairs a p q w = (
   pairNumber (kindAt (w .0)) p (w .3),
   elim (decLt (w .0) 3) [
-    | yes h ↦ inl (w .0, w .1, h, (w .3, omega arith, w .4, w .5, refl))
-    | no h ↦ (let e : w .0 ≡ 3 = omega (arith, w .2) in inr (w .3, omega arith, w .4, w .5 ∙ ap (λ j. placeOf (groupAt (kindAt j) p) (w .3)) e, ap (λ j. pairNumber (kindAt j) p (w .3)) e))
+    | yes h ↦ inl (w .0, w .1, h, (w .3, w .4, w .5, refl))
+    | no h ↦ (let e : w .0 ≡ 3 = omega (arith, w .2) in inr (w .3, w .4, w .5 ∙ ap (λ j. placeOf (groupAt (kindAt j) p) (w .3)) e, ap (λ j. pairNumber (kindAt j) p (w .3)) e))
   ],
 )
 
@@ -75,10 +75,10 @@ module _ (s : ClauseSet) {c p q : ℕ} (x : Paired s c p q) where
 
   paired-pairs : Pairs (firstPair s) 3 p 9 q c
   paired-pairs =
-      let l : Along (numberOf (x .kind)) p 0 9 q c = (x .at, omega arith, x .below, along, x .number ∙ ap (λ f. pairNumber f p (x .at)) (sym is-kind)) in
+      let l : Along (numberOf (x .kind)) p 9 q c = (x .at, x .below, along, x .number ∙ ap (λ f. pairNumber f p (x .at)) (sym is-kind)) in
       elim (decLt (numberOf (x .kind)) 3) [
         | yes h ↦ inl (numberOf (x .kind), x .has, h, l)
-        | no h ↦ (let e : numberOf (x .kind) ≡ 3 = omega (arith, number-below (x .kind)) in inr (subst (λ j. Along j p 0 9 q c) e l))
+        | no h ↦ (let e : numberOf (x .kind) ≡ 3 = omega (arith, number-below (x .kind)) in inr (subst (λ j. Along j p 9 q c) e l))
       ]
 
 same-place : (a b : ℕ) → pos (suc a) ≡ pos (suc b) → a ≡ b
@@ -103,13 +103,13 @@ module _ (s : ClauseSet) (m : List ℕ) (p : ℕ) (marks : IsMarks m) (u : Undec
     pair-adds : (q c : ℕ) → Pairs (firstPair s) 3 p 9 q c → getD raised q 0 ≡ 0 → Adds s raised c q
     pair-adds q c w z = ⊎-elim (λ v. go (v .0) (v .1) (omega (arith, v .2)) (v .3)) (λ v. go 3 (first-below s) (omega arith) v) w
       where
-        go : (j : ℕ) → firstPair s ≤ j → j < 4 → Along j p 0 9 q c → Adds s raised c q
+        go : (j : ℕ) → firstPair s ≤ j → j < 4 → Along j p 9 q c → Adds s raised c q
         go j a b l =
             let f = kindAt j in
             let i = index-at p (u .0) f in
-            let d : l .0 ≡ indexAt f p → ⊥ = λ e. (let y : q ≡ p = l .3 ∙ ap (placeOf (groupAt f p)) e ∙ i .1 in omega (arith, raised-here, z, ap (λ t. getD raised t 0) y)) in
-            let k : Pair s (pairNumber f p (l .0)) p (placeOf (groupAt f p) (l .0)) = pair-clause s f (omega (arith, a, number-at j b)) p (u .0) (l .0) (l .2) d in
-            (p, raised-true, (omega (arith, l .3, place-at p (u .0) f (l .0) (l .2) .0), z), subst (λ x. Pair s x p q) (sym (l .4)) (subst (λ x. Pair s (pairNumber f p (l .0)) p x) (sym (l .3)) k))
+            let d : l .0 ≡ indexAt f p → ⊥ = λ e. (let y : q ≡ p = l .2 ∙ ap (placeOf (groupAt f p)) e ∙ i .1 in omega (arith, raised-here, z, ap (λ t. getD raised t 0) y)) in
+            let k : Pair s (pairNumber f p (l .0)) p (placeOf (groupAt f p) (l .0)) = pair-clause s f (omega (arith, a, number-at j b)) p (u .0) (l .0) (l .1) d in
+            (p, raised-true, (omega (arith, l .2, place-at p (u .0) f (l .0) (l .1) .0), z), subst (λ x. Pair s x p q) (sym (l .3)) (subst (λ x. Pair s (pairNumber f p (l .0)) p x) (sym (l .2)) k))
 
     adds-pair : (q c : ℕ) → Adds s raised c q → Pairs (firstPair s) 3 p 9 q c
     adds-pair q c w =

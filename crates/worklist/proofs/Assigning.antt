@@ -17,11 +17,11 @@ use Rattle.clauses.specs.Shape.{placeOf}
 use Rattle.clauses.specs.declared.ClauseSet.{ClauseSet}
 use Rattle.closure.specs.Marks.{decidedIn, decided, IsMarks}
 use Rattle.closure.proofs.Marks.{decided-bounded}
-use Rattle.worklist.specs.Groups.{groupIn, clauseIn, kindAt, indexAt, slotAt, nineKinds}
+use Rattle.groups.specs.Groups.{groupIn, clauseIn, kindAt, indexAt, slotAt, nineKinds}
 use Rattle.worklist.specs.Sums.{sumOf}
 use Rattle.worklist.specs.Acting.{Listed, At, Undecided, IsSign, Ready, Weighable, Weighed, sumAfter}
 use Rattle.worklist.specs.declared.acting.Work.{Work}
-use Rattle.worklist.proofs.Slots.{number-at, slot-kind, slot-group, index-at, slot-place, nines-below}
+use Rattle.groups.proofs.Slots.{number-at, slot-kind, slot-group, index-at, slot-place, nines-below}
 use Rattle.worklist.proofs.Sums.{sum-marked, sum-kept, sum-least, sum-most}
 
 -- a mark at an undecided place decides one variable more

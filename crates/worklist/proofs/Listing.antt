@@ -11,7 +11,7 @@ use lib.Seq.{getD-set-same, getD-set-other}
 use Rattle.clauses.specs.Shape.{placeOf}
 use Rattle.clauses.specs.declared.ClauseSet.{ClauseSet}
 use Rattle.closure.proofs.Marks.{decided-bounded}
-use Rattle.worklist.specs.Groups.{groupAt, kindAt, pairNumber}
+use Rattle.groups.specs.Groups.{groupAt, kindAt, pairNumber}
 use Rattle.worklist.specs.Acting.{Pairs, Along, Opened, Beside, Front, RunListed, ListedTo, Ready}
 use Rattle.worklist.specs.declared.acting.Work.{Work}
 
@@ -52,19 +52,19 @@ opened-none a p m ls o h =
     record {
       long = h;
       sound = λ i b. absurd (omega arith);
-      complete = λ q c w z. ⊎-elim (λ u. absurd (omega (arith, u .1, u .2))) (λ u. absurd (omega (arith, u .2))) w;
+      complete = λ q c w z. ⊎-elim (λ u. absurd (omega (arith, u .1, u .2))) (λ u. absurd (omega (arith, u .1))) w;
     }
 
 opened-kind : (a i p : ℕ) {m ls o : List ℕ} {n : ℕ} → a ≤ i → Opened m (Pairs a i p 9) ls o n → Opened m (Pairs a (i + 1) p 0) ls o n
 opened-kind a i p h r =
     opened-same
     (λ q c w. inl (⊎-elim (λ u. (u .0, u .1, omega (arith, u .2), u .3)) (λ u. (i, h, omega arith, u)) w))
-    (λ q c w. ⊎-elim (λ u. before q c u) (λ u. absurd (omega (arith, u .2))) w) r
+    (λ q c w. ⊎-elim (λ u. before q c u) (λ u. absurd (omega (arith, u .1))) w) r
   where
-    before : (q c : ℕ) → (j : ℕ) × (a ≤ j) × (j < i + 1) × Along j p 0 9 q c → Pairs a i p 9 q c
+    before : (q c : ℕ) → (j : ℕ) × (a ≤ j) × (j < i + 1) × Along j p 9 q c → Pairs a i p 9 q c
     before q c u = elim (decLt (u .0) i) [
       | yes b ↦ inl (u .0, u .1, b, u .3)
-      | no b ↦ (let e : u .0 ≡ i = omega (arith, u .2) in inr (subst (λ j. Along j p 0 9 q c) e (u .3)))
+      | no b ↦ (let e : u .0 ≡ i = omega (arith, u .2) in inr (subst (λ j. Along j p 9 q c) e (u .3)))
     ]
 
 -- no kind, a run more, and a kind more
@@ -119,23 +119,23 @@ module _ (a i p k : ℕ) (m ls o : List ℕ) (n n' : ℕ) (room : n < 36) (long 
       moved : {q c x y : ℕ} → q ≡ x → c ≡ y → Pairs a i p (k + 1) x y → getD m x 0 ≡ 0 → Pairs a i p (k + 1) q c × (getD m q 0 ≡ 0)
       moved e f d z = rw (e, f) (d, z)
 
-      last : Along i p 0 (k + 1) place number
-      last = (k, omega arith, omega arith, refl, refl)
+      last : Along i p (k + 1) place number
+      last = (k, omega arith, refl, refl)
 
       wider : (q c : ℕ) → Pairs a i p k q c → Pairs a i p (k + 1) q c
-      wider q c s = ⊎-elim inl (λ w. inr (w .0, w .1, omega (arith, w .2), w .3, w .4)) s
+      wider q c s = ⊎-elim inl (λ w. inr (w .0, omega (arith, w .1), w .2, w .3)) s
 
       keep : (q c : ℕ) → Beside ls o n c q → Beside (set ls (2916 + n) number) (set o n place) n' c q
       keep q c w =
           let b : w .0 < n' = ⊎-elim (λ u. omega (arith, w .1, u .1)) (λ u. omega (arith, w .1, u .1)) listed in
           (w .0, b, numbered (w .0) (w .1) ∙ w .2, there (w .0) (w .1) ∙ w .3)
 
-      at : (q c : ℕ) → Along i p 0 (k + 1) q c → getD m q 0 ≡ 0 → Beside (set ls (2916 + n) number) (set o n place) n' c q
+      at : (q c : ℕ) → Along i p (k + 1) q c → getD m q 0 ≡ 0 → Beside (set ls (2916 + n) number) (set o n place) n' c q
       at q c w z = elim (decLt (w .0) k) [
-        | yes b ↦ keep q c (r .complete q c (inr (w .0, w .1, b, w .3, w .4)) z)
+        | yes b ↦ keep q c (r .complete q c (inr (w .0, b, w .2, w .3)) z)
         | no b ↦ (
-            let e : w .0 ≡ k = omega (arith, w .2) in
-            let f : q ≡ place = w .3 ∙ ap (placeOf (groupAt (kindAt i) p)) e in
-            let g : c ≡ number = w .4 ∙ ap (pairNumber (kindAt i) p) e in
+            let e : w .0 ≡ k = omega (arith, w .1) in
+            let f : q ≡ place = w .2 ∙ ap (placeOf (groupAt (kindAt i) p)) e in
+            let g : c ≡ number = w .3 ∙ ap (pairNumber (kindAt i) p) e in
             ⊎-elim (λ u. (n, omega (arith, u .1), new ∙ sym g, here ∙ sym f)) (λ u. absurd (u .0 (ap (λ y. getD m y 0) (sym f) ∙ z))) listed)
       ]

@@ -9,7 +9,7 @@ use lib.Dec.{T}
 use lib.IntN.{ℤ, pos, negsuc, negℤ}
 use lib.ListN.{length, getD, set}
 use Rattle.grid.proofs.Completion.{eq-iff}
-use Rattle.literals.specs.Literal.{Literal, markIndex}
+use Rattle.clauses.specs.Literal.{Literal, markIndex}
 use Rattle.closure.specs.Closure.{With}
 use Rattle.closure.specs.Marks.{has, isDecided, mark, IsMarks}
 use Rattle.closure.proofs.Marks.{has-mark, put-set, or-iff}

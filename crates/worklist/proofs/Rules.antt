@@ -12,50 +12,15 @@ use lib.IntN.{ℤ, pos, negsuc, negℤ}
 use Rattle.clauses.specs.Clauses.{clausesOf}
 use Rattle.clauses.specs.Shape.{placeOf, IsShape, InSet, clauseOf}
 use Rattle.clauses.specs.declared.ClauseSet.{ClauseSet}
-use Rattle.clauses.specs.declared.ClauseSet.the-variants.{Minimal, Extended}
 use Rattle.clauses.specs.declared.Group.{Group}
 use Rattle.clauses.specs.declared.Shape.{Shape}
 use Rattle.clauses.specs.declared.Shape.the-variants.{OneOf, NotBoth}
 use Rattle.clauses.proofs.Members.{over-iff, member-iff}
 use Rattle.closure.specs.Sets.{LiteralSet}
 use Rattle.closure.specs.Closure.{UnitClosed}
-use Rattle.worklist.specs.Groups.{groupAt, PairKind, NineKind}
-use Rattle.worklist.specs.declared.groups.Kind.{Kind}
-use Rattle.worklist.specs.declared.groups.Kind.the-variants.{Cell, Row, Column, Box}
-use Rattle.worklist.proofs.Slots.{group-is, by-kind, place-once, number-below}
-
--- the kinds are those of the shapes
-pub pair-in : (s : ClauseSet) (f : Kind) → PairKind s f → (p i j : ℕ) → InSet s (NotBoth (groupAt f p) i j)
-unfolding groupAt
-pair-in Extended f h p i j = tt
-pair-in Minimal Cell h p i j = omega (arith, h)
-pair-in Minimal Row h p i j = tt
-pair-in Minimal Column h p i j = tt
-pair-in Minimal Box h p i j = tt
-
-pub in-pair : (s : ClauseSet) (f : Kind) (p i j : ℕ) → InSet s (NotBoth (groupAt f p) i j) → PairKind s f
-unfolding groupAt
-in-pair Extended f p i j h = omega arith
-in-pair Minimal Cell p i j h = absurd h
-in-pair Minimal Row p i j h = omega arith
-in-pair Minimal Column p i j h = omega arith
-in-pair Minimal Box p i j h = omega arith
-
-in-nine : (s : ClauseSet) (f : Kind) (p : ℕ) → InSet s (OneOf (groupAt f p)) → NineKind s f
-unfolding groupAt
-in-nine Extended f p h = number-below f
-in-nine Minimal Cell p h = omega arith
-in-nine Minimal Row p h = absurd h
-in-nine Minimal Column p h = absurd h
-in-nine Minimal Box p h = absurd h
-
-nine-in : (s : ClauseSet) (f : Kind) → NineKind s f → (p : ℕ) → InSet s (OneOf (groupAt f p))
-unfolding groupAt
-nine-in Extended f h p = tt
-nine-in Minimal Cell h p = tt
-nine-in Minimal Row h p = omega (arith, h)
-nine-in Minimal Column h p = omega (arith, h)
-nine-in Minimal Box h p = omega (arith, h)
+use Rattle.groups.specs.Groups.{groupAt, PairKind, NineKind}
+use Rattle.groups.specs.declared.Kind.{Kind}
+use Rattle.groups.proofs.Slots.{group-is, by-kind, place-once, pair-in, in-pair, nine-in, in-nine}
 
 module _ (s : ClauseSet) (S : LiteralSet) where
   -- in a group a true place strikes the others; the last place left is true

@@ -14,10 +14,10 @@ use Rattle.grid.proofs.Completion.{eq-iff}
 use Rattle.clauses.specs.Shape.{placeOf}
 use Rattle.clauses.specs.declared.Group.{Group}
 use Rattle.closure.specs.Marks.{has, IsMarks}
-use Rattle.worklist.specs.Groups.{groupIn}
+use Rattle.groups.specs.Groups.{groupIn}
 use Rattle.worklist.specs.Sums.{weight, sumOf}
 use Rattle.worklist.specs.Acting.{True, False, AllBut}
-use Rattle.worklist.proofs.Slots.{slot-place, slot-once}
+use Rattle.groups.proofs.Slots.{slot-place, slot-once}
 
 -- two sums that differ at one number
 total-change : (n : ℕ) (f g : ℕ → ℕ) (k : ℕ) → k < n → ((j : ℕ) → j < n → (j ≡ k → ⊥) → f j ≡ g j) → total n f + g k ≡ total n g + f k

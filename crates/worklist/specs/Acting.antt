@@ -2,8 +2,8 @@
 use mathlib.Core.Path.{_≡_}
 use mathlib.Core.Bool.{cond}
 use mathlib.Core.Logic.{_⊎_}
-use mathlib.Core.List.{List, [], _∷_}
-use Prim.Native.Nat.{ℕ, suc, _+_, _*_, _-_, _/_, _≤_, _<_}
+use mathlib.Core.List.{List}
+use Prim.Native.Nat.{ℕ, suc, _+_, _*_, _-_, _≤_, _<_}
 use lib.Dec.{T, ltb}
 use lib.IntN.{ℤ, pos, negsuc}
 use lib.ListN.{length, getD, set}
@@ -14,7 +14,7 @@ use Rattle.clauses.specs.declared.Group.{Group}
 use Rattle.closure.specs.Sets.{Within as LiteralsWithin, Least}
 use Rattle.closure.specs.Closure.{Contradiction, UnitClosed}
 use Rattle.closure.specs.Marks.{has, decided, IsMarks}
-use Rattle.worklist.specs.Groups.{groupAt, groupIn, clauseIn, kindAt, firstPair, pairNumber}
+use Rattle.groups.specs.Groups.{groupAt, groupIn, clauseIn, kindAt, firstPair, pairNumber, Pair}
 use Rattle.worklist.specs.Sums.{weight, InSlots, SumsOk}
 use Rattle.worklist.specs.declared.acting.Work.{Work}
 
@@ -76,12 +76,6 @@ pub record Weighed (a ls : List ℕ) (n x p b : ℕ) (a' ls' : List ℕ) (n' : �
 abbrev pub Within : ℕ → ℕ → ℕ → ℕ → Type 0
 Within a i p q = (j : ℕ) × (a ≤ j) × (j < i) × (k : ℕ) × (k < 9) × (q ≡ placeOf (groupAt (kindAt j) p) k)
 
--- clause c of the set says that not both of places p and q are true
-abbrev pub Pair : ClauseSet → ℕ → ℕ → ℕ → Type 0
-Pair s c p q =
-    (c < length (clausesOf s))
-    × ((getD (clausesOf s) c [] ≡ negsuc p ∷ negsuc q ∷ []) ⊎ (getD (clausesOf s) c [] ≡ negsuc q ∷ negsuc p ∷ []))
-
 -- clause c of two literals may add that place q is false: its other place is true, and q is undecided
 abbrev pub Adds : ClauseSet → List ℕ → ℕ → ℕ → Type 0
 Adds s m c q = (p : ℕ) × True m p × Undecided m q × Pair s c p q
@@ -107,17 +101,13 @@ pub record Opened (m : List ℕ) (D : ℕ → ℕ → Type 0) (ls o : List ℕ) 
   pub sound : (i : ℕ) → i < n → D (getD o i 0) (getD ls (2916 + i) 0) × (getD m (getD o i 0) 0 ≡ 0)
   pub complete : (q c : ℕ) → D q c → getD m q 0 ≡ 0 → Beside ls o n c q
 
--- the pairs of p with the places of its group of the j-th kind, from one on and before another
-abbrev pub Along : ℕ → ℕ → ℕ → ℕ → ℕ → ℕ → Type 0
-Along j p from to q c = (k : ℕ) × (from ≤ k) × (k < to) × (q ≡ placeOf (groupAt (kindAt j) p) k) × (c ≡ pairNumber (kindAt j) p k)
+-- the pairs of p with the first places of its group of the j-th kind
+abbrev pub Along : ℕ → ℕ → ℕ → ℕ → ℕ → Type 0
+Along j p to q c = (k : ℕ) × (k < to) × (q ≡ placeOf (groupAt (kindAt j) p) k) × (c ≡ pairNumber (kindAt j) p k)
 
 -- those of the kinds from a on and before i, and of the i-th those with the first places
 abbrev pub Pairs : ℕ → ℕ → ℕ → ℕ → ℕ → ℕ → Type 0
-Pairs a i p to q c = ((j : ℕ) × (a ≤ j) × (j < i) × Along j p 0 9 q c) ⊎ Along i p 0 to q c
-
--- places of a group whose pairs are counted from one number: in a box, within a third
-abbrev pub IsRun : ℕ → ℕ → ℕ → Type 0
-IsRun i from to = (i < 4) × (from ≤ to) × (to ≤ 9) × ((i < 3) ⊎ (to ≤ 3 * (from / 3) + 3))
+Pairs a i p to q c = ((j : ℕ) × (a ≤ j) × (j < i) × Along j p 9 q c) ⊎ Along i p to q c
 
 -- a run more is listed
 pub record RunListed (m : List ℕ) (i p from to : ℕ) (ls o : List ℕ) (n : ℕ) (ls' o' : List ℕ) (n' : ℕ) : Type 0 where

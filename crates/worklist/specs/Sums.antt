@@ -8,7 +8,7 @@ use Rattle.grid.specs.Counting.{total}
 use Rattle.clauses.specs.Shape.{placeOf}
 use Rattle.clauses.specs.declared.ClauseSet.{ClauseSet}
 use Rattle.clauses.specs.declared.Group.{Group}
-use Rattle.worklist.specs.Groups.{nineKinds, groupIn}
+use Rattle.groups.specs.Groups.{nineKinds, groupIn}
 
 -- what place p weighs by its mark
 abbrev pub weight : ℕ → ℕ → ℕ

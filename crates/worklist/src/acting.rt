@@ -1,24 +1,24 @@
 // Marks with a sum for each nine-literal clause, and a list of the clauses that may act: nine-literal clauses from its front, and from 2,916 on
 // two-literal ones, pairs, with the place that each would strike beside it. A place that is decided changes the sums of the clauses that it is
 // in, and those that come to act are listed. A place that becomes true lists its pairs, and these act at once, so that between two steps none is left.
-use crate::groups::clause_in;
-use crate::groups::first_number;
-use crate::groups::kind_at;
-use crate::groups::line_of;
-use crate::groups::narrow;
-use crate::groups::nine_kinds;
-use crate::groups::pair_table;
-use crate::groups::place_in;
-use crate::groups::row_at;
-use crate::groups::slot_at;
-use crate::groups::wide;
 use clauses::ClauseSet;
+use groups::clause_at;
+use groups::first_number;
+use groups::kind_at;
+use groups::line_of;
+use groups::narrow;
+use groups::nine_kinds;
+use groups::pair_table;
+use groups::place_in;
+use groups::row_at;
+use groups::slot_at;
+use groups::wide;
 ghost use mathlib.Core.Path.{_≡_};
 ghost use Prim.Native.Nat.{ℕ, _+_, _*_, _≤_, _<_};
 ghost use lib.ListN.{getD, length, set as update};
-ghost use Rattle.worklist.specs.Groups.{firstPair, pairTable};
+ghost use Rattle.groups.specs.Groups.{clauseIn, firstPair, pairTable, IsRun};
 ghost use Rattle.worklist.specs.Sums.{weight as weightOf};
-ghost use Rattle.worklist.specs.Acting.{Weighable, Weighed, Ready, At, Struck, Undecided, IsSign, IsRun, RunListed, ListedTo, PairsReady, True, Listed, Strikes, Stepped};
+ghost use Rattle.worklist.specs.Acting.{Weighable, Weighed, Ready, At, Struck, Undecided, IsSign, RunListed, ListedTo, PairsReady, True, Listed, Strikes, Stepped};
 
 // How many clauses are listed, and how many variables are decided.
 pub struct Work {
@@ -46,15 +46,16 @@ fn weigh(
     list: &mut [u16; 2952],
     listed: usize,
     slot: usize,
+    clause: u16,
     p: usize,
     mark: u8,
 ) -> usize
-    requires { ⌜ Weighable (now sums) listed slot p ⌝ }
+    requires { ⌜ Weighable (now sums) listed slot p × (clause ≡ clauseIn slot) ⌝ }
     ensures { λ r. ⌜ Weighed (now (sums .entry)) (now (list .entry)) listed slot p mark (now (sums .exit)) (now (list .exit)) r ⌝ }
 {
     let sum = wide(sums[slot]) + weight(mark, p) - (1024 + p);
     sums[slot] = sum as u16;
-    list[listed] = clause_in(slot);
+    list[listed] = clause;
     if sum < 2048 { listed + 1 } else { listed }
 }
 
@@ -76,7 +77,15 @@ pub fn assign(
     let mut n = work.listed;
     let mut i = 0;
     while i < kinds {
-        n = weigh(sums, list, n, slot_at(kind_at(i), p), p, mark);
+        n = weigh(
+            sums,
+            list,
+            n,
+            slot_at(kind_at(i), p),
+            clause_at(kind_at(i), p),
+            p,
+            mark,
+        );
         i += 1;
     }
     marks[p] = mark;

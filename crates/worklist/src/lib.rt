@@ -1,6 +1,4 @@
 // The worklist of propagation: marks with a sum for each nine-literal clause, and a list of the clauses that may act.
 //
-//     groups    the groups of a place, and the slots of the nine-literal clauses
 //     acting    what a place that is decided brings about: new sums, and clauses that come to act
 pub mod acting;
-pub mod groups;

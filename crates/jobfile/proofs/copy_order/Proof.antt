@@ -3,7 +3,7 @@ use mathlib.Core.Path.{_≡_, refl, sym, _∙_}
 use Prim.Native.Nat.{_-_, _≤_}
 use native.Mathlib.Omega.{arith}
 use lib.ListN.{length, length-set}
-use Rattle.literals.proofs.Signed.{read}
+use Rattle.clauses.proofs.Signed.{read}
 use Rattle.jobfile.proofs.Copying.{copied, copied-more, copied-all}
 use Rattle.jobfile.proofs.copy_order.Statement.{statement}
 use Rattle.jobfile.proofs.copy_order.Tie as tie

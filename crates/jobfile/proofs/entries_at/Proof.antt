@@ -5,8 +5,8 @@ use Prim.Native.Nat.{ℕ, _+_, _*_, _-_, _≤_, _<_}
 use native.Mathlib.Omega.{arith}
 use lib.IntN.{pos}
 use lib.ListN.{length, getD, length-set}
-use Rattle.literals.proofs.Signed.{returned}
 use Rattle.clauses.proofs.Filling.{map-at}
+use Rattle.clauses.proofs.Signed.{returned}
 use Rattle.pieces.specs.Number.{signedOf}
 use Rattle.jobfile.specs.Contents.{entryAt, entriesAt}
 use Rattle.jobfile.proofs.Copying.{copied, copied-more, copied-all}

@@ -3,7 +3,7 @@ use mathlib.Core.Path.{_≡_, ap, _∙_}
 use lib.ListN.{length}
 use Rattle.orders.specs.Order.{defaultOrder, defaultCeiling}
 use borrow.Author.Needs.{needs}
-use Rattle.search.specs.Search.{zeros}
+use Rattle.exploration.specs.Search.{zeros}
 use Rattle.grading.specs.Grade.{gradeCall}
 use Rattle.listing.specs.Listing.{shown, listed, put}
 use Rattle.listing.proofs.list_line.Statement.{statement}

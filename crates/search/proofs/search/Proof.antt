@@ -9,7 +9,7 @@ use Rattle.grid.specs.declared.Checked.{Checked}
 use Rattle.grid.specs.declared.Checked.the-variants as check
 use Rattle.grid.proofs.Completion.{accepted-long}
 use Rattle.completions.specs.Completions.{completions}
-use Rattle.search.specs.Search.{foundOf}
+use Rattle.exploration.specs.Search.{foundOf}
 use Rattle.search.specs.Call.{counted, refused, searchCall}
 use Rattle.search.proofs.Calls.{first-short, second-short, checked, found-bytes, copied}
 use Rattle.search.proofs.search.Statement.{statement}

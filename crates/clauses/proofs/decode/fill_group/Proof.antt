@@ -3,9 +3,9 @@ use mathlib.Core.Path.{ap, sym, _∙_}
 use Prim.Native.Nat.{suc, _-_}
 use native.Mathlib.Omega.{arith}
 use lib.IntN.{pos}
-use Rattle.literals.proofs.Signed.{returned}
 use Rattle.clauses.specs.Shape.{clauseOf}
 use Rattle.clauses.specs.declared.Shape.the-variants.{OneOf}
+use Rattle.clauses.proofs.Signed.{returned}
 use Rattle.clauses.proofs.Filling.{Filled, filled-none, filled-more, filled-all, group-at, group-short}
 use Rattle.clauses.proofs.decode.fill_group.Statement.{statement}
 use Rattle.clauses.proofs.decode.fill_group.Tie as tie

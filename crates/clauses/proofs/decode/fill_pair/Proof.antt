@@ -5,8 +5,8 @@ use Prim.Native.Nat.{ℕ, zero, suc, _-_, _≤_}
 use native.Mathlib.Omega.{arith}
 use lib.IntN.{pos, negsuc}
 use lib.ListN.{length-set}
-use Rattle.literals.proofs.Signed.{returned}
 use Rattle.clauses.specs.Clauses.{Clause}
+use Rattle.clauses.proofs.Signed.{returned}
 use Rattle.clauses.proofs.Filling.{literalAt, Filled, filled-none, filled-more, filled-all}
 use Rattle.clauses.proofs.decode.fill_pair.Statement.{statement}
 use Rattle.clauses.proofs.decode.fill_pair.Tie as tie

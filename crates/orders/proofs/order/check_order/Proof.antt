@@ -15,8 +15,8 @@ use Rattle.grid.specs.Refusals.{refusal}
 use Rattle.grid.specs.declared.Checked.the-variants.{Accepted, Refused}
 use Rattle.grid.proofs.First.{Scanned, first-here, first-later, first-none}
 use Rattle.grid.proofs.Least.{Scan, scan-none, scan-fails, scan-first, scan-later, scan-all, least-is}
-use Rattle.literals.specs.Literal.{Literal, isLiteral}
-use Rattle.literals.proofs.Signed.{read, literal-iff}
+use Rattle.clauses.specs.Literal.{Literal, isLiteral}
+use Rattle.clauses.proofs.Signed.{read, literal-iff}
 use Rattle.orders.specs.Order.{firstNoLiteral, repeats, firstRepeat, orderCheck}
 use Rattle.orders.specs.Place.{tablePlace}
 use Rattle.orders.proofs.Orders.{entry, place-below}

@@ -7,8 +7,8 @@ use native.Mathlib.Omega.{arith}
 use lib.IntN.{ℤ, pos, negsuc}
 use lib.ListN.{length, set, length-set}
 use lib.Seq.{ext-getD, getD-set-same, getD-set-other}
-use Rattle.literals.specs.Literal.{Literal}
-use Rattle.literals.proofs.Signed.{returned}
+use Rattle.clauses.specs.Literal.{Literal}
+use Rattle.clauses.proofs.Signed.{returned}
 use Rattle.orders.specs.Order.{defaultOrder}
 use Rattle.orders.specs.Place.{tablePlace}
 use Rattle.orders.proofs.Orders.{entry, place-below, default-long, default-at}

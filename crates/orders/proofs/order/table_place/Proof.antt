@@ -10,8 +10,8 @@ use lib.Signed.{ltZ}
 use mir.Syntax.{w16}
 use mir.Val.{toZ, ofZ}
 use Rattle.grid.specs.Counting.{tick}
-use Rattle.literals.specs.Literal.{markIndex}
-use Rattle.literals.proofs.Signed.{read, test-of, mark-below}
+use Rattle.clauses.specs.Literal.{markIndex}
+use Rattle.clauses.proofs.Signed.{read, test-of, mark-below}
 use Rattle.orders.specs.Place.{tablePlace}
 use Rattle.orders.proofs.order.table_place.Statement.{statement}
 use Rattle.orders.proofs.order.table_place.Tie as tie

@@ -8,7 +8,7 @@ use lib.IntN.{pos, negsuc, _-ℤ_}
 use mir.Syntax.{w16}
 use mir.Val.{toZ}
 use mir.ValLaws.{toZ-pos}
-use Rattle.literals.proofs.Signed.{read}
+use Rattle.clauses.proofs.Signed.{read}
 use Rattle.pieces.specs.Number.{signedOf}
 use Rattle.pieces.proofs.number.signed.Statement.{statement}
 use Rattle.pieces.proofs.number.signed.Tie as tie

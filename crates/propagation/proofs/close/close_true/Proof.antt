@@ -9,9 +9,9 @@ use lib.IntN.{pos, negsuc}
 use lib.ListN.{getD}
 use mir.Syntax.{w16}
 use mir.Val.{toZ, ofZ}
-use Rattle.literals.specs.Literal.{Literal}
-use Rattle.literals.proofs.Signed.{returned}
+use Rattle.clauses.specs.Literal.{Literal}
 use Rattle.clauses.specs.Clauses.{clausesOf}
+use Rattle.clauses.proofs.Signed.{returned}
 use Rattle.closure.specs.Closure.{With, UnitClosed}
 use Rattle.closure.specs.Marks.{has, isDecided}
 use Rattle.closure.proofs.Sets.{least-given}

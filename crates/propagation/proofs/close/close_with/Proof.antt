@@ -11,8 +11,8 @@ use lib.Dec.{T}
 use lib.IntN.{ℤ, pos, negsuc}
 use lib.ListN.{set}
 use lib.Signed.{ltZ}
-use Rattle.literals.specs.Literal.{markIndex}
-use Rattle.literals.proofs.Signed.{read, test-of}
+use Rattle.clauses.specs.Literal.{markIndex}
+use Rattle.clauses.proofs.Signed.{read, test-of}
 use Rattle.worklist.specs.Acting.{Ready, Undecided, Struck, Stepped}
 use Rattle.worklist.specs.declared.acting.Work.{Work}
 use Rattle.worklist.proofs.Literals.{placeAt, byteOf, place-below, index-place, open-byte, has-set}

@@ -7,9 +7,9 @@ use lib.Dec.{T}
 use lib.IntN.{ℤ, negℤ}
 use mir.Syntax.{w16}
 use mir.Val.{toZ, ofZ}
-use Rattle.literals.specs.Literal.{Literal, negation}
-use Rattle.literals.proofs.Signed.{read, returned, negation-literal}
 use Rattle.clauses.specs.Clauses.{clausesOf}
+use Rattle.clauses.specs.Literal.{Literal, negation}
+use Rattle.clauses.proofs.Signed.{read, returned, negation-literal}
 use Rattle.closure.specs.Closure.{With}
 use Rattle.closure.specs.Marks.{has, isDecided, mark}
 use Rattle.closure.specs.Propagation.{Answer, unitClosure}

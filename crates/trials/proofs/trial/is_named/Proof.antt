@@ -7,7 +7,7 @@ use borrow.Author.Tests.{le-ltb, leb-true, eqb-true}
 use lib.Dec.{T}
 use lib.IntN.{ℤ, pos, negsuc}
 use lib.Signed.{ltZ}
-use Rattle.literals.proofs.Signed.{test-of}
+use Rattle.clauses.proofs.Signed.{test-of}
 use Rattle.trials.specs.Known.{Names}
 use Rattle.trials.proofs.trial.is_named.Statement.{statement}
 use Rattle.trials.proofs.trial.is_named.Tie as tie

@@ -7,10 +7,10 @@ use borrow.Author.Needs.{needs}
 use lib.Dec.{T}
 use lib.IntN.{ℤ, negℤ}
 use lib.ListN.{getD}
-use Rattle.literals.specs.Literal.{Literal, markIndex}
-use Rattle.literals.proofs.Signed.{read}
 use Rattle.clauses.specs.Clauses.{clausesOf}
+use Rattle.clauses.specs.Literal.{Literal, markIndex}
 use Rattle.clauses.specs.declared.ClauseSet.{ClauseSet}
+use Rattle.clauses.proofs.Signed.{read}
 use Rattle.closure.specs.Marks.{isDecided, mark, decided}
 use Rattle.closure.specs.Propagation.{unitClosure}
 use Rattle.closure.specs.Job.{Step, Walk, after, try, step, walked, kept}

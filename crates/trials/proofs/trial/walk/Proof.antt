@@ -9,9 +9,9 @@ use lib.IntN.{ℤ, pos}
 use lib.ListN.{length, getD}
 use mir.Syntax.{w16}
 use mir.Val.{toZ, ofZ}
-use Rattle.literals.specs.Literal.{Literal}
-use Rattle.literals.proofs.Signed.{read}
 use Rattle.clauses.specs.Clauses.{clausesOf}
+use Rattle.clauses.specs.Literal.{Literal}
+use Rattle.clauses.proofs.Signed.{read}
 use Rattle.closure.specs.Job.{after, step, walked}
 use Rattle.trials.specs.Steps.{walkOf, Walking, PassOk}
 use Rattle.trials.specs.declared.trial.Pass.{Pass}

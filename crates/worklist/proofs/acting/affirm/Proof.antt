@@ -6,7 +6,7 @@ use borrow.Author.Needs.{needs}
 use lib.ListN.{getD, set}
 use Rattle.closure.specs.Marks.{IsMarks}
 use Rattle.closure.proofs.Marks.{decided-rises}
-use Rattle.worklist.specs.Groups.{firstPair}
+use Rattle.groups.specs.Groups.{firstPair}
 use Rattle.worklist.specs.Acting.{Listed, PairsReady, ListedTo, Strikes}
 use Rattle.worklist.proofs.Listing.{ready-front}
 use Rattle.worklist.proofs.Affirming.{pairs-ready, affirmed}

@@ -5,9 +5,9 @@ use native.Mathlib.Omega.{arith}
 use borrow.Author.Needs.{needs}
 use lib.ListN.{set}
 use Rattle.closure.proofs.Marks.{decided-bounded}
-use Rattle.worklist.specs.Groups.{kindAt, slotAt}
+use Rattle.groups.specs.Groups.{kindAt, clauseIn, slotAt}
 use Rattle.worklist.specs.Acting.{Weighable, Weighed}
-use Rattle.worklist.proofs.Slots.{nines-below}
+use Rattle.groups.proofs.Slots.{nines-below}
 use Rattle.worklist.proofs.Assigning.{Weighing, weighable, weighing-next, weighing-none, weighing-all}
 use Rattle.worklist.proofs.acting.assign.Statement.{statement}
 use Rattle.worklist.proofs.acting.assign.Tie as tie
@@ -27,16 +27,19 @@ loop-holds c =
           (weighing-none (a .set) (a .p) (a .mark) (a .marks .now) (a .sums .now) (a .list .now) (a .work) (s .pre .0) (s .pre .1) (s .pre .2)),
     )
 
--- the slot whose turn it is
-module _ (c : tie.After-slot-at Inv-loop μ-loop) where
+-- the slot whose turn it is, and its clause
+module _ (c : tie.After-clause-at Inv-loop μ-loop) where
   abbrev turn : tie.In-loop Inv-loop μ-loop
-  turn = c .before .before .before .before
+  turn = c .before .before .before .before .before .before
 
   abbrev entry : tie.After-nine-kinds Inv-loop μ-loop
   entry = turn .before .before
 
-  is-slot : c .slot-at .result ≡ slotAt (kindAt (turn .before .loop .i)) (entry .before .args .p)
-  is-slot = c .slot-at .ensures ∙ ap (λ f. slotAt f (entry .before .args .p)) (c .before .kind-at .ensures)
+  is-slot : c .before .before .slot-at .result ≡ slotAt (kindAt (turn .before .loop .i)) (entry .before .args .p)
+  is-slot = c .before .before .slot-at .ensures ∙ ap (λ f. slotAt f (entry .before .args .p)) (c .before .before .before .kind-at .ensures)
+
+  is-clause : c .clause-at .result ≡ clauseIn (c .before .before .slot-at .result)
+  is-clause = c .clause-at .ensures ∙ ap (λ f. clauseIn (slotAt f (entry .before .args .p))) (c .before .kind-at2 .ensures) ∙ ap clauseIn (sym is-slot)
 
   four : entry .nine-kinds .result ≤ 4
   four = omega (arith, entry .nine-kinds .ensures, nines-below (entry .before .args .set))
@@ -45,9 +48,11 @@ weigh-requires : tie.Need-weigh-requires Inv-loop μ-loop
 weigh-requires c κs =
     let l = turn c .before .loop in
     let s = entry c .before in
-    let a = s .args in
-    subst (λ x. Weighable (l .sums) (l .n) x (a .p)) (sym (is-slot c))
-    (weighable (entry c .nine-kinds .result) (l .i) (a .p) (a .mark) (a .marks .now) (l .sums) (l .list) (l .n) (four c) (turn c .loop-test .taken) (s .pre .0 .marks) (s .pre .1) (s .pre .2) (l .inv .1))
+    let a = s .args in (
+      subst (λ x. Weighable (l .sums) (l .n) x (a .p)) (sym (is-slot c))
+          (weighable (entry c .nine-kinds .result) (l .i) (a .p) (a .mark) (a .marks .now) (l .sums) (l .list) (l .n) (four c) (turn c .loop-test .taken) (s .pre .0 .marks) (s .pre .1) (s .pre .2) (l .inv .1)),
+      is-clause c,
+    )
 
 loop-again : tie.Need-loop-again Inv-loop μ-loop
 loop-again c =
@@ -74,12 +79,9 @@ returns c =
           (subst (λ n. Weighing n (l .i) (a .p) (a .marks .now) (set (a .marks .now) (a .p) (a .mark)) (l .sums) (l .list) (l .n)) (k .nine-kinds .ensures) (l .inv .1)),
     )
 
--- the count fits
-add-decided : tie.Need-add-t18 Inv-loop μ-loop
-add-decided c = let s = c .before .before .before .before in omega (arith, s .pre .0 .count, decided-bounded (s .args .marks .now))
-
 pub assign-spec : {M : Type 1} → statement M
 assign-spec =
     tie.close
-    (tie.spec Inv-loop μ-loop (λ c κs. search needs) loop-holds (λ c κs. search needs) (λ c κs. c .before .before .before .before .before .before .pre .1 .0) weigh-requires
-    (λ c. omega arith) (λ c. omega arith) loop-again (λ c. c .before .before .before .pre .1 .0) add-decided returns)
+    (tie.spec Inv-loop μ-loop (λ c κs. search needs) loop-holds (λ c κs. search needs) (λ c κs. c .before .before .before .before .before .before .pre .1 .0) (λ c κs. search needs) (λ c κs. c .before .before .before .before .before .before .before .before .pre .1 .0) weigh-requires
+    (λ c. omega arith) (λ c. omega arith) loop-again (λ c. c .before .before .before .pre .1 .0)
+    (λ c. let s = c .before .before .before .before in omega (arith, s .pre .0 .count, decided-bounded (s .args .marks .now))) returns)

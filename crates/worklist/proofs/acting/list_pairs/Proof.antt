@@ -6,7 +6,7 @@ use native.Mathlib.Omega.{arith}
 use borrow.Author.Needs.{needs}
 use Rattle.clauses.specs.declared.ClauseSet.{ClauseSet}
 use Rattle.clauses.specs.declared.ClauseSet.the-variants.{Minimal, Extended}
-use Rattle.worklist.specs.Groups.{firstPair}
+use Rattle.groups.specs.Groups.{firstPair}
 use Rattle.worklist.specs.Acting.{ListedTo}
 use Rattle.worklist.proofs.Listing.{to-none, to-run, to-named, to-kind}
 use Rattle.worklist.proofs.acting.list_pairs.Statement.{statement}

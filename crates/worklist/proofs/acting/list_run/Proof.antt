@@ -6,10 +6,10 @@ use native.Mathlib.Omega.{arith}
 use borrow.Author.Needs.{needs}
 use lib.ListN.{length, getD, set}
 use Rattle.clauses.specs.Shape.{placeOf}
-use Rattle.worklist.specs.Groups.{groupAt, kindAt, placeAlong, firstNumber, rowAt, pairTable, pairNumber}
+use Rattle.groups.specs.Groups.{groupAt, kindAt, placeAlong, firstNumber, rowAt, pairTable, pairNumber}
 use Rattle.worklist.specs.Acting.{Pairs, Opened, Front}
-use Rattle.worklist.proofs.Slots.{place-at}
-use Rattle.worklist.proofs.Pairs.{first-same, row-below, number-small}
+use Rattle.groups.proofs.Slots.{place-at}
+use Rattle.groups.proofs.Pairs.{first-same, row-below, number-small}
 use Rattle.worklist.proofs.Listing.{front-same, front-more, front-set, opened-next}
 use Rattle.worklist.proofs.acting.list_run.Statement.{statement}
 use Rattle.worklist.proofs.acting.list_run.Tie as tie

@@ -23,7 +23,7 @@ module _ (c : tie.After-weight) where
   is-sum = omega (arith, c .before .wide .ensures, c .weight .ensures)
 
   fits : c .before .wide .result + c .weight .result < 65536
-  fits = omega (arith, c .before .wide .ensures, c .weight .ensures, start .pre .most, weight-most (start .args .mark) (start .args .p) (start .pre .place))
+  fits = omega (arith, c .before .wide .ensures, c .weight .ensures, start .pre .0 .most, weight-most (start .args .mark) (start .args .p) (start .pre .0 .place))
 
 add-sum : tie.Need-add-sum
 add-sum c = omega (arith, fits c)
@@ -33,21 +33,21 @@ cast-sums c = omega (arith, fits c)
 
 returns : tie.Need-returns
 returns c =
-    let w = c .before .before in
+    let w = c .before in
     let a = start w .args in
     record {
       sums = ap (set (a .sums .now) (a .slot)) (is-sum w);
-      list = ap (set (a .list .now) (a .listed)) (c .before .clause-in .ensures);
+      list = ap (set (a .list .now) (a .listed)) (start w .pre .1);
       listed = sym (ap (λ t. cond t (a .listed + 1) (a .listed)) (lt-ltb (after w) 2048 (omega (arith, is-sum w, c .if1 .taken))));
     }
 
 returns-2 : tie.Need-returns-2
 returns-2 c =
-    let w = c .before .before in
+    let w = c .before in
     let a = start w .args in
     record {
       sums = ap (set (a .sums .now) (a .slot)) (is-sum w);
-      list = ap (set (a .list .now) (a .listed)) (c .before .clause-in .ensures);
+      list = ap (set (a .list .now) (a .listed)) (start w .pre .1);
       listed = sym (ap (λ t. cond t (a .listed + 1) (a .listed)) (le-ltb (after w) 2048 (omega (arith, is-sum w, c .if1 .left))));
     }
 
@@ -55,4 +55,4 @@ pub weigh-spec : {M : Type 1} → statement M
 weigh-spec =
     tie.close
     (tie.spec (λ c. search needs) (λ c. search needs) (λ c κs. search needs) (λ c κs. search needs) add-sum (λ c. search needs) (λ c. search needs) cast-sums (λ c. search needs)
-    (λ c. search needs) (λ c κs. search needs) (λ c. search needs) (λ c. search needs) (λ c. search needs) returns returns-2)
+    (λ c. search needs) (λ c. search needs) (λ c. search needs) (λ c. search needs) returns returns-2)

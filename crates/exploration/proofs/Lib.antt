@@ -1,0 +1,4 @@
+pub mod Finding
+mod Marked
+mod Full
+mod Branches
