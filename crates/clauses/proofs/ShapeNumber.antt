@@ -1,8 +1,8 @@
 -- The number of the clause of a shape: that the number has this shape is a test that is computed, over every group and pair.
 -- Assumes nothing.
-use mathlib.Core.Path.{_≡_, ap, subst}
+use mathlib.Core.Path.{_≡_, ap}
 use mathlib.Core.Bool.{Bool, false, _&&_}
-use Prim.Native.Nat.{ℕ, _+_, _*_, _/_, _%_, _<_}
+use Prim.Native.Nat.{ℕ, _<_}
 use native.Mathlib.Omega.{arith}
 use lib.Dec.{T, ltb, eqb, ltb→lt, eqb→eq}
 use Rattle.grid.specs.Counting.{all}
@@ -97,17 +97,3 @@ pub shape-number : (t : ClauseSet) (s : Shape) → IsShape s → InSet t s → (
 shape-number t s h i =
     let w = and-iff (ltb (numberOf s) (boundOf s)) (sameShape (shapeOf (numberOf s)) s) .0 (shape-right s h) in
     (bound-fits t s i (numberOf s) (ltb→lt (numberOf s) (boundOf s) (w .0)), shape-eq (shapeOf (numberOf s)) s (w .1))
-
--- a clause's number is that of its shape: a test that is computed, over all 11,988 numbers
-abbrev again : ℕ → Bool
-again n = eqb (numberOf (shapeOf n)) n
-
-all-again : T (all 111 λ a. all 108 λ b. again (108 * a + b))
-unfolding all numberOf shapeOf
-all-again = tt
-
-pub number-again : (n : ℕ) → n < 11988 → numberOf (shapeOf n) ≡ n
-number-again n h =
-    let e : 108 * (n / 108) + n % 108 ≡ n = omega arith in
-    let t = all-iff 108 (λ b. again (108 * (n / 108) + b)) .0 (all-iff 111 (λ a. all 108 λ b. again (108 * a + b)) .0 all-again (n / 108) (omega arith)) (n % 108) (omega arith) in
-    eqb→eq (numberOf (shapeOf n)) n (subst (λ x. T (again x)) e t)

@@ -21,7 +21,7 @@ use Rattle.clauses.specs.declared.Group.{Group}
 use Rattle.clauses.specs.declared.Shape.{Shape}
 use Rattle.clauses.specs.declared.Shape.the-variants.{OneOf, NotBoth}
 use Rattle.clauses.proofs.Numbers.{sizeOf, sizes, set-long, clause-at, shape-is}
-use Rattle.clauses.proofs.ShapeNumber.{shape-number, number-again}
+use Rattle.clauses.proofs.ShapeNumber.{shape-number}
 use Rattle.clauses.proofs.Members.{shape-in}
 use Rattle.groups.specs.Groups.{groupAt, indexAt, kindAt, PairKind, lower, higher, boxIndex, square, pairTable, rowAt, firstNumber, pairNumber, IsRun, Pair}
 use Rattle.groups.specs.declared.Kind.{Kind}
@@ -170,6 +170,20 @@ pair-clause s f u p h k b d = subst (λ c. Pair s c p (placeOf (groupAt f p) k))
     said x y a c =
         let w = shape-number s (NotBoth g x y) (group-is p h f, a, c) (pair-in s f u p x y) in
         (omega (arith, w .0, set-long s), clause-at s (shapeNumber (NotBoth g x y)) (w .0) ∙ ap clauseOf (w .1))
+
+-- a clause's number is that of its shape: a test that is computed, over all 11,988 numbers
+abbrev again : ℕ → Bool
+again n = eqb (shapeNumber (shapeOf n)) n
+
+all-again : T (all 111 λ a. all 108 λ b. again (108 * a + b))
+unfolding all shapeNumber shapeOf
+all-again = tt
+
+number-again : (n : ℕ) → n < 11988 → shapeNumber (shapeOf n) ≡ n
+number-again n h =
+    let e : 108 * (n / 108) + n % 108 ≡ n = omega arith in
+    let t = all-iff 108 (λ b. again (108 * (n / 108) + b)) .0 (all-iff 111 (λ a. all 108 λ b. again (108 * a + b)) .0 all-again (n / 108) (omega arith)) (n % 108) (omega arith) in
+    eqb→eq (shapeNumber (shapeOf n)) n (subst (λ x. T (again x)) e t)
 
 -- and they are all that it is in
 pub record Paired (s : ClauseSet) (c p q : ℕ) : Type 0 where
