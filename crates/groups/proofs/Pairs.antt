@@ -23,10 +23,10 @@ use Rattle.clauses.specs.declared.Shape.the-variants.{OneOf, NotBoth}
 use Rattle.clauses.proofs.Numbers.{sizeOf, sizes, set-long, clause-at, shape-is}
 use Rattle.clauses.proofs.ShapeNumber.{shape-number}
 use Rattle.clauses.proofs.Members.{shape-in}
-use Rattle.groups.specs.Groups.{groupAt, indexAt, kindAt, PairKind, lower, higher, boxIndex, square, pairTable, rowAt, firstNumber, pairNumber, IsRun, Pair}
+use Rattle.groups.specs.Groups.{groupAt, indexAt, kindAt, PairKind, lower, higher, boxIndex, pairTable, rowAt, firstNumber, pairNumber, IsRun, Pair}
 use Rattle.groups.specs.declared.Kind.{Kind}
 use Rattle.groups.specs.declared.Kind.the-variants.{Cell, Column, Row, Box}
-use Rattle.groups.proofs.Slots.{pair-in, in-pair, group-is, by-kind, index-at, place-at, place-once, group-same}
+use Rattle.groups.proofs.Slots.{pair-in, in-pair, group-is, by-kind, index-at, place-at, group-same}
 
 -- the entries of the table, and how far they go: tests that are computed
 abbrev pairEntry : ℕ → ℕ → Bool

@@ -21,7 +21,7 @@ use Rattle.clauses.specs.declared.Group.{Group}
 use Rattle.clauses.specs.declared.Group.the-variants as group
 use Rattle.clauses.specs.declared.Shape.the-variants.{OneOf, NotBoth}
 use Rattle.clauses.proofs.ShapeNumber.{sameGroup, group-eq, shape-number}
-use Rattle.groups.specs.Groups.{groupAt, indexAt, kindAt, numberOf, PairKind, nineKinds, NineKind, groupIn, clauseIn, slotAt}
+use Rattle.groups.specs.Groups.{groupAt, indexAt, kindAt, numberOf, firstPair, PairKind, nineKinds, NineKind, groupIn, clauseIn, slotAt}
 use Rattle.groups.specs.declared.Kind.{Kind}
 use Rattle.groups.specs.declared.Kind.the-variants.{Cell, Column, Row, Box}
 
@@ -100,6 +100,10 @@ number-below Cell = omega arith
 number-below Column = omega arith
 number-below Row = omega arith
 number-below Box = omega arith
+
+pub first-below : (s : ClauseSet) → firstPair s ≤ 1
+first-below Minimal = omega arith
+first-below Extended = omega arith
 
 pub nines-below : (s : ClauseSet) → nineKinds s ≤ 4
 nines-below Minimal = omega arith

@@ -323,7 +323,7 @@ pub fn clause_at(kind: Kind, p: usize) -> u16
 }
 
 // A number of one byte, as an index.
-pub fn narrow(n: u8) -> usize
+pub fn byte(n: u8) -> usize
     ensures { λ r. ⌜ r ≡ n ⌝ }
 {
     n as usize

@@ -14,7 +14,6 @@ use lib.Seq.{getD-set-same}
 use Rattle.clauses.specs.Clauses.{clausesOf}
 use Rattle.clauses.specs.Shape.{placeOf}
 use Rattle.clauses.specs.declared.ClauseSet.{ClauseSet}
-use Rattle.clauses.specs.declared.ClauseSet.the-variants.{Minimal, Extended}
 use Rattle.closure.specs.Sets.{Least}
 use Rattle.closure.specs.Closure.{UnitClosed}
 use Rattle.closure.specs.Marks.{has, IsMarks}
@@ -22,10 +21,10 @@ use Rattle.closure.proofs.Sets.{least-given}
 use Rattle.groups.specs.Groups.{groupAt, indexAt, kindAt, numberOf, firstPair, pairNumber, Pair}
 use Rattle.worklist.specs.Acting.{True, False, Listed, Within, Undecided, Along, Pairs, Adds, PairsReady, Opened, Strikes, Struck, Stepped}
 use Rattle.worklist.specs.declared.acting.Work.{Work}
-use Rattle.groups.proofs.Slots.{number-at, at-number, number-below, index-at, place-at, place-once, group-same}
+use Rattle.groups.proofs.Slots.{first-below, number-at, at-number, number-below, index-at, place-at, place-once, group-same}
 use Rattle.worklist.proofs.Rules.{closed-strikes}
 use Rattle.groups.proofs.Pairs.{Paired, pair-clause, clause-pair}
-use Rattle.worklist.proofs.Sums.{true-byte, false-byte, byte-true, byte-false}
+use Rattle.worklist.proofs.Sums.{true-byte, false-byte, byte-false}
 use Rattle.worklist.proofs.Literals.{has-set}
 use Rattle.worklist.proofs.Striking.{signs-differ}
 
@@ -41,10 +40,6 @@ within-turned a i p q h w =
     (w .0, w .1, w .2, indexAt f p, k .0, sym (k .1) ∙ ap (λ g. placeOf g (indexAt f p)) (sym (group-same f p h (w .3) (w .4)) ∙ ap (groupAt f) (sym (w .5))))
 
 -- the pairs of a place are with the places of its groups
-first-below : (s : ClauseSet) → firstPair s ≤ 3
-first-below Minimal = omega arith
-first-below Extended = omega arith
-
 pairs-within : (a p q c : ℕ) → a ≤ 3 → Pairs a 3 p 9 q c → Within a 4 p q
 pairs-within a p q c h w = ⊎-elim (λ u. (u .0, u .1, omega (arith, u .2), u .3 .0, u .3 .1, u .3 .2)) (λ u. (3, h, omega arith, u .0, u .1, u .2)) w
 
@@ -101,7 +96,7 @@ module _ (s : ClauseSet) (m : List ℕ) (p : ℕ) (marks : IsMarks m) (u : Undec
     raised-true = true-byte raised p raised-here
 
     pair-adds : (q c : ℕ) → Pairs (firstPair s) 3 p 9 q c → getD raised q 0 ≡ 0 → Adds s raised c q
-    pair-adds q c w z = ⊎-elim (λ v. go (v .0) (v .1) (omega (arith, v .2)) (v .3)) (λ v. go 3 (first-below s) (omega arith) v) w
+    pair-adds q c w z = ⊎-elim (λ v. go (v .0) (v .1) (omega (arith, v .2)) (v .3)) (λ v. go 3 (omega (arith, first-below s)) (omega arith) v) w
       where
         go : (j : ℕ) → firstPair s ≤ j → j < 4 → Along j p 9 q c → Adds s raised c q
         go j a b l =
@@ -142,7 +137,7 @@ module _ (s : ClauseSet) (m : List ℕ) (p : ℕ) (marks : IsMarks m) (u : Undec
     strikes q k S closed g =
         let x = r .sound (k .0) (k .1) in
         let e = k .2 in
-        let w : Within (firstPair s) 4 p q = subst (Within (firstPair s) 4 p) e (pairs-within (firstPair s) p _ _ (first-below s) (x .0)) in
+        let w : Within (firstPair s) 4 p q = subst (Within (firstPair s) 4 p) e (pairs-within (firstPair s) p _ _ (omega (arith, first-below s)) (x .0)) in
         let z : getD raised q 0 ≡ 0 = subst (λ y. getD raised y 0 ≡ 0) e (x .1) in
         let f = kindAt (w .0) in
         let i = index-at p (u .0) f in

@@ -2,11 +2,11 @@
 // two-literal ones, pairs, with the place that each would strike beside it. A place that is decided changes the sums of the clauses that it is
 // in, and those that come to act are listed. A place that becomes true lists its pairs, and these act at once, so that between two steps none is left.
 use clauses::ClauseSet;
+use groups::byte;
 use groups::clause_at;
 use groups::first_number;
 use groups::kind_at;
 use groups::line_of;
-use groups::narrow;
 use groups::nine_kinds;
 use groups::pair_table;
 use groups::place_in;
@@ -119,7 +119,7 @@ fn list_run(
     while k < to {
         let q = place_in(line, k);
         let at = row + k;
-        let number = first + narrow(table[at]);
+        let number = first + byte(table[at]);
         list[2916 + n] = number as u16;
         beside[n] = q as u16;
         n = if marks[q] == 0 { n + 1 } else { n };

@@ -1,7 +1,6 @@
 -- Each arm is the number of its kind: F1 begins at 0, F7 at 11,745, F8 at 11,826 and F9 at 11,907.
 use mathlib.Core.Path.{_≡_, ap, sym, _∙_}
 use Prim.Native.Nat.{_+_, _*_, _/_, _%_}
-use native.Mathlib.Omega.{arith}
 use borrow.Author.Needs.{needs}
 use Rattle.groups.specs.Groups.{clauseIn, slotAt}
 use Rattle.groups.proofs.Slots.{box-row, box-column, cell-clause, column-clause, row-clause, box-clause}

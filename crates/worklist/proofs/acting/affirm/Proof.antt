@@ -1,9 +1,8 @@
 -- The place gets its mark, and its pairs that may act are listed and act.
 use mathlib.Core.Path.{_≡_, sym, subst}
-use Prim.Native.Nat.{_<_}
 use native.Mathlib.Omega.{arith}
 use borrow.Author.Needs.{needs}
-use lib.ListN.{getD, set}
+use lib.ListN.{set}
 use Rattle.closure.specs.Marks.{IsMarks}
 use Rattle.closure.proofs.Marks.{decided-rises}
 use Rattle.groups.specs.Groups.{firstPair}

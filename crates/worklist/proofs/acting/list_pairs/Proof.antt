@@ -1,20 +1,14 @@
 -- Kind by kind, and the box by its rows.
 use mathlib.Core.Path.{ap, _∙_}
 use mathlib.Core.Logic.{inl, inr, ⊎-elim}
-use Prim.Native.Nat.{_≤_}
 use native.Mathlib.Omega.{arith}
 use borrow.Author.Needs.{needs}
-use Rattle.clauses.specs.declared.ClauseSet.{ClauseSet}
-use Rattle.clauses.specs.declared.ClauseSet.the-variants.{Minimal, Extended}
 use Rattle.groups.specs.Groups.{firstPair}
 use Rattle.worklist.specs.Acting.{ListedTo}
+use Rattle.groups.proofs.Slots.{first-below}
 use Rattle.worklist.proofs.Listing.{to-none, to-run, to-named, to-kind}
 use Rattle.worklist.proofs.acting.list_pairs.Statement.{statement}
 use Rattle.worklist.proofs.acting.list_pairs.Tie as tie
-
-first-below : (s : ClauseSet) → firstPair s ≤ 1
-first-below Minimal = omega arith
-first-below Extended = omega arith
 
 -- the cell, where the set has its pairs
 cells : (c : tie.At-match-came) → let a = c .before .args in ListedTo (a .marks .now) (firstPair (a .set)) 1 (a .p) 0 (a .list .now) (c .match .list) (c .match .beside) (c .match .cell)

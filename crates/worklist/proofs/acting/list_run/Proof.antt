@@ -4,7 +4,7 @@ use mathlib.Core.Logic.{_⊎_, inl, inr, ⊎-elim}
 use Prim.Native.Nat.{ℕ, _+_, _*_, _-_, _/_, _≤_, _<_}
 use native.Mathlib.Omega.{arith}
 use borrow.Author.Needs.{needs}
-use lib.ListN.{length, getD, set}
+use lib.ListN.{getD, set}
 use Rattle.clauses.specs.Shape.{placeOf}
 use Rattle.groups.specs.Groups.{groupAt, kindAt, placeAlong, firstNumber, rowAt, pairTable, pairNumber}
 use Rattle.worklist.specs.Acting.{Pairs, Opened, Front}
@@ -68,7 +68,7 @@ entry : (c : tie.After-place-in Inv-loop μ-loop) → numbered (c .before) .befo
 entry c = omega (arith, is-row (c .before), row-below (start (c .before) .args .p) (start (c .before) .pre .1) (kindAt (start (c .before) .args .i)) (k (c .before)) (nine (c .before)))
 
 -- the place and the number of its pair, as they are computed
-module _ (c : tie.After-narrow Inv-loop μ-loop) where
+module _ (c : tie.After-byte Inv-loop μ-loop) where
   abbrev turn : tie.In-loop Inv-loop μ-loop
   turn = c .before .before .before
 
@@ -84,13 +84,13 @@ module _ (c : tie.After-narrow Inv-loop μ-loop) where
   small : c .before .before .place-in .result < 729
   small = omega (arith, c .before .before .place-in .ensures, below turn)
 
-  is-entry : c .narrow .result ≡ getD pairTable (rowAt (kindAt i) p + k turn) 0
-  is-entry = c .narrow .ensures ∙ ap (λ t. getD t (numbered turn .before .before .row-at .result + k turn) 0) (start turn .pre .4) ∙ ap (λ r. getD pairTable (r + k turn) 0) (is-row turn)
+  is-entry : c .byte .result ≡ getD pairTable (rowAt (kindAt i) p + k turn) 0
+  is-entry = c .byte .ensures ∙ ap (λ t. getD t (numbered turn .before .before .row-at .result + k turn) 0) (start turn .pre .4) ∙ ap (λ r. getD pairTable (r + k turn) 0) (is-row turn)
 
-  is-number : numbered turn .first-number .result + c .narrow .result ≡ pairNumber (kindAt i) p (k turn)
-  is-number = ap (λ x. x + c .narrow .result) (is-first turn) ∙ ap (λ x. firstNumber (kindAt i) p (k turn / 3) + x) is-entry
+  is-number : numbered turn .first-number .result + c .byte .result ≡ pairNumber (kindAt i) p (k turn)
+  is-number = ap (λ x. x + c .byte .result) (is-first turn) ∙ ap (λ x. firstNumber (kindAt i) p (k turn / 3) + x) is-entry
 
-  fits : numbered turn .first-number .result + c .narrow .result < 65536
+  fits : numbered turn .first-number .result + c .byte .result < 65536
   fits = omega (arith, is-number, number-small p (start turn .pre .1) (kindAt i) (k turn / 3) (k turn) (nine turn))
 
 -- whether it is listed
@@ -111,7 +111,7 @@ loop-again c =
       omega (arith, l .inv .0),
       omega (arith, turn d .loop-test .taken),
       ⊎-elim (λ x. omega (arith, l .inv .2, x .1)) (λ x. omega (arith, l .inv .2, x .1)) o,
-      front-more (l .inv .3) (front-set (l .list) (l .n) (numbered (turn d) .first-number .result + d .narrow .result)),
+      front-more (l .inv .3) (front-set (l .list) (l .n) (numbered (turn d) .first-number .result + d .byte .result)),
       λ b h r.
           let D = Pairs b (a .i) (a .p) (l .k + 1) in
           let m = a .marks .now in
