@@ -3,6 +3,8 @@
 //
 //     batch          the batch call, with its refusals
 //     BatchAnswer    what it answers
+#![tactic(auto)]
+
 ghost use Rattle.std.specs.Prelude.{◌≡◌, ◌-◌, ◌≤◌, length};
 ghost use Rattle.grid.specs.Refusals.{refusal};
 ghost use Rattle.grid.specs.declared.Checked.TheVariants.{Refused};

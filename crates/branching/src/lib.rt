@@ -2,6 +2,8 @@
 // smallest. A plain look takes the cell with the fewest digits left. A survey first dives for a full grid; then each place is tried, and what the
 // trial decides tells how large the tree below it may be. Marks go with the sums of their clauses; the list is lent to the closures for their
 // work alone.
+#![tactic(auto)]
+
 ghost use Rattle.std.specs.Prelude.{◌<◌, ◌≤◌};
 ghost use Rattle.clauses.specs.Shape.{IsGroup};
 ghost use Rattle.clauses.specs.declared.ClauseSet.TheVariants.{Extended};

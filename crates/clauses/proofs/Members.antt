@@ -29,7 +29,7 @@ use Rattle.clauses.proofs.ShapeNumber.{shape_number}
 
 module _ {A : Type 0} (d : A) where
   -- a member stands at some place,
-  pub place_of : (xs : List A) {x : A} → Memᴰ x xs → (n : ℕ) × (n < length xs) × (get_or xs n d ≡ x)
+  pub place_of : {x : A} (xs : List A) → Memᴰ x xs → (n : ℕ) × (n < length xs) × (get_or xs n d ≡ x)
   place_of xs (Memᴰ.head e) = (0, omega arith, sym e)
   place_of xs (Memᴰ.tail {xs = ys} m) = let w = place_of ys m in (suc w.0, omega (arith, w.1), w.2)
 

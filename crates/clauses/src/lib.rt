@@ -3,6 +3,8 @@
 //     clause        the clause call: a set's clause by its number, refusals 43 to 45
 //     literal       literals as signed 16-bit numbers
 //     decode        a clause's group and places by arithmetic on its number
+#![tactic(auto)]
+
 pub mod decode;
 pub mod literal;
 
@@ -14,21 +16,21 @@ ghost use Rattle.grid.specs.Refusals.{refusal};
 use grid::Refusal;
 
 // The clause sets of document 01: 1 is minimal, 2 is extended.
-#[derive(Drop)]
+#[derive(Clone, Copy)]
 pub enum ClauseSet {
     Minimal,
     Extended,
 }
 
 // Nine variables of which a full grid makes one true: the digits of a cell, or the cells of a house for one digit.
-#[derive(Drop)]
+#[derive(Clone, Copy)]
 pub enum Group {
     Cell(usize),
     House(usize, usize),
 }
 
 // What a clause says: one of a group is true, or not both of two places of a group are.
-#[derive(Drop)]
+#[derive(Clone, Copy)]
 pub enum Shape {
     OneOf(Group),
     NotBoth(Group, usize, usize),

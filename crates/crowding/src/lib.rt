@@ -2,6 +2,8 @@
 // that may be is found by bits, of which nothing is promised; then it is counted and looked at, place by place, that they are such cells.
 //
 //     crowded    whether some house is found to be crowded
+#![tactic(auto)]
+
 ghost use Rattle.std.specs.Prelude.{◌≡◌, true, not, ◌||◌, List, ◌≤◌, ◌<◌, eqb};
 ghost use Rattle.grid.specs.Counting.{tally, all};
 ghost use Rattle.closure.specs.Marks.{IsMarks};

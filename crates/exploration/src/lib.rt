@@ -1,5 +1,7 @@
 // The complete search: branching on the first open cell, digits rising, so that completions are found in byte order. A branch is entered
 // unless a test refutes it; of that test only this is used, that what it refutes leaves nothing.
+#![tactic(auto)]
+
 ghost use Rattle.std.specs.Prelude.{◌≡◌, true, List, ◌++◌, ℕ, ◌<◌, length};
 ghost use Rattle.clauses.specs.declared.ClauseSet.TheVariants.{Extended};
 ghost use Rattle.propagation.specs.Steps.{StateOk};

@@ -1,5 +1,7 @@
 // Grades the lines of standard input, each under the default order and ceiling, and writes a listing. What a line says is the proved
 // library's; here bytes are read, kept until their line ends, and written, in large pieces where input comes in such.
+#![tactic(auto)]
+
 ghost use Rattle.std.specs.Prelude.{◌≡◌, ◌≤◌, length};
 
 // How far the program has come: the number of the line that is being read; how many of its first 82 bytes are kept, which tell any longer line;

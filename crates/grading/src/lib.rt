@@ -3,6 +3,8 @@
 //
 //     grade          the grading call, with its refusals
 //     GradeAnswer    what it answers
+#![tactic(auto)]
+
 ghost use Rattle.std.specs.Prelude.{◌≡◌, ◌∷◌, ◌+◌, ◌<◌, length, drop};
 ghost use Rattle.grid.specs.Refusals.{refusal};
 ghost use Rattle.trials.specs.Known.{CompletionOk};

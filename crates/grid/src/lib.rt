@@ -5,6 +5,8 @@
 //     first_bad_byte       the place of the first byte of no meaning, in a grid or a batch
 //     legal                the test of a legal completion
 //     copy                 copies of lent bytes
+#![tactic(auto)]
+
 ghost use Rattle.std.specs.Prelude.{◌≡◌, ◌<◌};
 ghost use Rattle.grid.specs.Grid.{has_meaning};
 ghost use Rattle.grid.specs.House.{cell_of};

@@ -1,12 +1,14 @@
 // The groups of a place: nine places each, of which a full grid makes one true, and the numbers of the clauses over them. A nine-literal clause has
 // a slot, in which its sum stands: one for each group, in the order of document 01's numbers. A two-literal clause is a pair of places of a group.
+#![tactic(auto)]
+
 ghost use Rattle.std.specs.Prelude.{◌≡◌, ℕ, ◌/◌, ◌<◌};
 ghost use Rattle.groups.specs.Groups.{group_at, place_along, LineOf, kind_at, nine_kinds, row_at, first_number, pair_table, slot_at, clause_in};
 
 use clauses::ClauseSet;
 
 // The cell of a place, and the column, the row and the box of its cell for its digit.
-#[derive(Drop)]
+#[derive(Clone, Copy)]
 pub enum Kind {
     Cell,
     Column,
@@ -40,7 +42,7 @@ pub fn nine_kinds(set: ClauseSet) -> usize
 }
 
 // The nine places of a group, three by three: the k-th is first + far * (k / 3) + near * (k % 3).
-#[derive(Drop)]
+#[derive(Clone, Copy)]
 pub struct Line {
     pub first: usize,
     pub far: usize,

@@ -11,6 +11,8 @@
 //     grader_read_job_file    the reading of a job file
 //     grader_header           the header of a listing
 //     grader_list_line        an output line of a listing
+#![tactic(auto)]
+
 ghost use Rattle.std.specs.Prelude.{◌≡◌};
 ghost use Rattle.grid.specs.Completion.{is_completion};
 ghost use Rattle.grid.specs.Refusals.{grid_check};

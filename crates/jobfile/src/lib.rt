@@ -2,6 +2,8 @@
 //
 //     read           the reading call, with its refusals
 //     ReadAnswer     what it answers
+#![tactic(auto)]
+
 ghost use Rattle.std.specs.Prelude.{◌≡◌, ◌+◌, ◌≤◌, length};
 ghost use Rattle.pieces.specs.Bodies.{Within, Readable};
 ghost use Rattle.jobfile.specs.Contents.{entries_at, ceiling_in, order_in};

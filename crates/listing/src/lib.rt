@@ -1,4 +1,6 @@
 // The lines of a listing: a line of input is graded under the defaults, and its output line is written into a lent buffer.
+#![tactic(auto)]
+
 ghost use Rattle.std.specs.Prelude.{◌≡◌, ◌∷◌, [], ◌+◌, ◌≤◌, ◌<◌, length};
 ghost use Rattle.listing.specs.Listing.{header_line, decimal, field, shown, listed, put};
 

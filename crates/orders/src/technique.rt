@@ -5,7 +5,7 @@ ghost use Rattle.orders.specs.Technique.{unit_minimal, unit_extended, trials_min
 use clauses::ClauseSet;
 
 // A technique: its clause set, and whether it makes trials.
-#[derive(Drop)]
+#[derive(Clone, Copy)]
 pub struct Technique {
     pub set: ClauseSet,
     pub trials: bool,

@@ -9,6 +9,8 @@
 //     read_job_file    the reading of a job file
 //     header           the header of a listing, in a lent buffer
 //     list_line        an output line of a listing
+#![tactic(auto)]
+
 ghost use Rattle.std.specs.Prelude.{◌≡◌};
 ghost use Rattle.grid.specs.Refusals.{grid_check};
 ghost use Rattle.clauses.specs.Call.{clause_call};

@@ -1,4 +1,6 @@
 // An answer of a call as one 64-bit number, since an exported function returns no more: a function for each kind of answer.
+#![tactic(auto)]
+
 ghost use Rattle.std.specs.Prelude.{◌≡◌};
 ghost use Rattle.inference.specs.Call.{outcome_number};
 ghost use Rattle.packing.specs.Packed.{packed_refusal, packed_result, packed_counted, packed_check, packed_clause, packed_job, packed_search};

@@ -2,5 +2,7 @@
 //
 //     piece     one reader for pieces of every kind, and the walk from piece to piece
 //     number    little-endian numbers
+#![tactic(auto)]
+
 pub mod number;
 pub mod piece;

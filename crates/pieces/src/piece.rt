@@ -7,7 +7,7 @@ use crate::number::word_at;
 use grid::Refusal;
 
 // Where the bodies of the four kinds begin; 0 for a kind that is not there, since no body begins before place 4.
-#[derive(Drop)]
+#[derive(Clone, Copy)]
 pub struct Bodies {
     pub grid: usize,
     pub technique: usize,

@@ -1,6 +1,8 @@
 // A test whether marks leave no legal full grid. It is a search of its own, which needs one full grid and not the smallest, so that it may
 // branch where the tree looks smallest. A plain attempt is enough for most marks; else attempts that survey follow, each with more nodes. All that
 // is promised is that marks which are refuted leave nothing.
+#![tactic(auto)]
+
 ghost use Rattle.std.specs.Prelude.{◌≡◌, true, List};
 ghost use Rattle.clauses.specs.declared.ClauseSet.TheVariants.{Extended};
 ghost use Rattle.propagation.specs.Steps.{StateOk};

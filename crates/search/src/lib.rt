@@ -2,6 +2,8 @@
 //
 //     search          the search call: none, one or several completions, and the smallest two
 //     SearchAnswer    what it answers
+#![tactic(auto)]
+
 ghost use Rattle.std.specs.Prelude.{◌≡◌};
 ghost use Rattle.grid.specs.Refusals.{refusal};
 ghost use Rattle.search.specs.Call.{search_call};

@@ -101,7 +101,7 @@ fn attempt(
 }
 
 // How a job ends, with its count.
-#[derive(Drop)]
+#[derive(Clone, Copy)]
 pub enum End {
     Solved(u32),
     Open(u32),

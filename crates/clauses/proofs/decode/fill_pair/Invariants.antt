@@ -1,0 +1,20 @@
+-- Two literals are written, and then zeros: the first k lent literals are the clause's, padded.
+use mathlib.Core.Path.{◌≡◌, refl, sym, ◌∙◌}
+use mathlib.Core.List.{[], ◌∷◌}
+use Prim.Native.Nat.{ℕ, zero, suc, ◌-◌, ◌≤◌}
+use native.Mathlib.Omega.{arith}
+use lib.IntN.{pos, negsuc}
+use lib.ListN.{length-set}
+use Rattle.clauses.specs.Clauses.{Clause}
+use Rattle.clauses.proofs.Signed.{returned}
+use Rattle.clauses.proofs.Filling.{literal_at, Filled, filled_none, filled_more, filled_all}
+use Rattle.clauses.proofs.decode.fill_pair.Given as goal
+
+abbrev pub two : ℕ → ℕ → Clause
+two a b = negsuc a ∷ negsuc b ∷ []
+
+abbrev pub invariant-loop-k : goal.invariant-loop-k
+invariant-loop-k l = (2 ≤ l.k) × Filled (two l.first l.second) l.out l.k
+
+abbrev pub decreases-loop-k : goal.decreases-loop-k
+decreases-loop-k l = 9 - l.k

@@ -1,0 +1,29 @@
+-- One pass over the house: after k cells, place d has the number of those where the digit d + 1 stands.
+use mathlib.Core.Path.{◌≡◌, refl, ap}
+use mathlib.Core.List.{List}
+use Prim.Native.Nat.{ℕ, ◌+◌, ◌-◌, ◌≤◌, ◌<◌}
+use native.Mathlib.Decide.{ℕ_discrete}
+use native.Mathlib.Omega.{arith}
+use borrow.Author.Tests.{eq-eqb, ne_eqb}
+use lib.Dec.{eqb}
+use lib.ListN.{length, get_or, get_or-replicate, set, length-set}
+use lib.Seq.{get_or-set_same, get_or-set_other}
+use Rattle.grid.specs.Counting.{tick, tally, total}
+use Rattle.grid.specs.Grid.{byte}
+use Rattle.grid.specs.House.{cell_of}
+use Rattle.grid.specs.Completion.{times}
+use Rattle.grid.proofs.Counting.{tally_more, tally_bound}
+use Rattle.grid.proofs.House.{cell_below}
+use Rattle.grid.proofs.Completion.{full_digit}
+use Rattle.grid.proofs.legal.count_digits.Given as goal
+
+-- the counts of k bytes, f 0 to f (k - 1): place d has that of the digit d + 1
+pub record Counted (f : ℕ → ℕ) (k : ℕ) (counts : List ℕ) : Type 0 where
+  pub nine : length counts ≡ 9
+  pub right : (d : ℕ) → d < 9 → get_or counts d 0 ≡ tally k (λ j. eqb (f j) (49 + d))
+
+abbrev pub invariant-loop-k : goal.invariant-loop-k
+invariant-loop-k l = (l.k ≤ 9) × Counted (λ j. byte l.candidate (cell_of l.house j)) l.k l.counts
+
+abbrev pub decreases-loop-k : goal.decreases-loop-k
+decreases-loop-k l = 9 - l.k

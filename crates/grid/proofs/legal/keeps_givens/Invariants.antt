@@ -1,0 +1,16 @@
+-- A scan of the cells: those before `cell` keep their givens.
+use mathlib.Core.Path.{sym, ◌∙◌}
+use mathlib.Core.Bool.{not, ◌||◌}
+use Prim.Native.Nat.{◌-◌}
+use native.Mathlib.Omega.{arith}
+use borrow.Author.Tests.{not-true, not-false}
+use lib.Dec.{eqb}
+use Rattle.grid.specs.Grid.{byte, is_digit}
+use Rattle.grid.proofs.Counting.{Passed, passed_none, passed_more, passed_all, one_fails}
+use Rattle.grid.proofs.legal.keeps_givens.Given as goal
+
+abbrev pub invariant-loop-cell : goal.invariant-loop-cell
+invariant-loop-cell l = Passed (λ c. not (is_digit (byte l.grid c)) || eqb (byte l.candidate c) (byte l.grid c)) 81 l.cell
+
+abbrev pub decreases-loop-cell : goal.decreases-loop-cell
+decreases-loop-cell l = 81 - l.cell
