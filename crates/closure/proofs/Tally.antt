@@ -44,7 +44,8 @@ tally_apart (suc n) p q h = omega (arith, one (p n) (q n) (h n (omega arith)), t
     one : (a b : Bool) → (T a → T b → ⊥) → tick a + tick b ≤ 1
     one true true h = absurd (h tt tt)
     one true false h = omega arith
-    one false b h = elim b [ true ↦ omega arith | false ↦ omega arith ]
+    one false true h = omega arith
+    one false false h = omega arith
 
 -- of n numbers n pass a test that all pass
 pub tally_true : (n : ℕ) → tally n (λ k. true) ≡ n

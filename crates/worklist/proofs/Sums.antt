@@ -55,14 +55,14 @@ total_small : (n : ℕ) (f : ℕ → ℕ) → ((j : ℕ) → j < n → (f j ≡ 
 unfolding total
 total_small zero f h b = inl (refl, λ j c. absurd (omega arith))
 total_small (suc n) f h b = ⊎_elim
-    (λ z. ⊎_elim
-    (λ r. inl (omega (arith, z, r.0), λ j c. elim (ℕ_discrete j n) [ yes e ↦ ap f e ∙ z | no d ↦ r.1 j (omega arith) ]))
-    (λ r. inr (r.0, omega (arith, r.1), omega (arith, z, r.2), r.3, λ j c d. elim (ℕ_discrete j n) [ yes e ↦ ap f e ∙ z | no q ↦ r.4 j (omega arith) d ]))
-    (total_small n f (λ j c. h j (omega arith)) (omega (arith, z))))
-    (λ z. ⊎_elim
-    (λ r. inr (n, omega arith, omega (arith, r.0), z, λ j c d. r.1 j (omega arith)))
-    (λ r. absurd (omega (arith, z, r.2, r.3)))
-    (total_small n f (λ j c. h j (omega arith)) (omega (arith, z))))
+    (λ z. elim (total_small n f (λ j c. h j (omega arith)) (omega (arith, z))) [
+      | inl r ↦ inl (omega (arith, z, r.0), λ j c. elim (ℕ_discrete j n) [ yes e ↦ ap f e ∙ z | no d ↦ r.1 j (omega arith) ])
+      | inr r ↦ inr (r.0, omega (arith, r.1), omega (arith, z, r.2), r.3, λ j c d. elim (ℕ_discrete j n) [ yes e ↦ ap f e ∙ z | no q ↦ r.4 j (omega arith) d ])
+    ])
+    (λ z. elim (total_small n f (λ j c. h j (omega arith)) (omega (arith, z))) [
+      | inl r ↦ inr (n, omega arith, omega (arith, r.0), z, λ j c d. r.1 j (omega arith))
+      | inr r ↦ absurd (omega (arith, z, r.2, r.3))
+    ])
     (h n (omega arith))
 
 -- weights by marks
