@@ -1,0 +1,27 @@
+-- The first q sums of each kind are those of nothing decided.
+use mathlib.Core.Path.{◌≡◌, refl, ap, sym, ◌∙◌}
+use mathlib.Core.List.{List}
+use Prim.Native.Nat.{ℕ, zero, suc, ◌+◌, ◌*◌, ◌-◌, ◌≤◌, ◌<◌}
+use native.Mathlib.Decide.{ℕ_discrete}
+use native.Mathlib.Omega.{arith}
+use lib.ListN.{length, get_or, set, length-set}
+use lib.Seq.{get_or-set_same, get_or-set_other}
+use Rattle.propagation.proofs.Givens.{blank_sum, blank_sums_ok}
+use Rattle.propagation.proofs.close.blank_sums.Given as goal
+
+-- the first q sums of each kind
+pub record Filled (q : ℕ) (a : List ℕ) : Type 0 where
+  pub long : length a ≡ 324
+  pub sums : (i p : ℕ) → i < 4 → p < q → get_or a (81 * i + p) 0 ≡ blank_sum i p
+
+-- the q-th sums of the kinds before n too
+pub record Filling (q n : ℕ) (a : List ℕ) : Type 0 where
+  pub long : length a ≡ 324
+  pub before : (i p : ℕ) → i < 4 → p < q → get_or a (81 * i + p) 0 ≡ blank_sum i p
+  pub here : (i : ℕ) → i < n → get_or a (81 * i + q) 0 ≡ blank_sum i q
+
+abbrev pub invariant-loop-q : goal.invariant-loop-q
+invariant-loop-q l = (l.q ≤ 81) × Filled l.q l.sums
+
+abbrev pub decreases-loop-q : goal.decreases-loop-q
+decreases-loop-q l = 81 - l.q
