@@ -11,7 +11,10 @@ use lib.Dec.{T}
 use lib.IntN.{ℤ, pos, negsuc}
 use lib.ListN.{set}
 use lib.Signed.{lt_z}
-use Rattle.clauses.specs.Literal.{mark_index}
+use Rattle.clauses.specs.Literal.{Literal, mark_index}
+use Rattle.clauses.specs.declared.ClauseSet.{ClauseSet}
+use Rattle.closure.specs.Marks.{is_decided}
+use Rattle.propagation.specs.Steps.{StateOk}
 use Rattle.clauses.proofs.Signed.{read, test_of}
 use Rattle.worklist.specs.Acting.{Ready, Undecided, Struck, Stepped}
 use Rattle.worklist.specs.declared.acting.Work.{Work}
@@ -19,6 +22,7 @@ use Rattle.worklist.proofs.Literals.{place_at, byte_of, place_below, index_place
 use Rattle.propagation.proofs.Looking.{stepped_none}
 use Rattle.propagation.proofs.Closing.{state_ready, closed_struck, struck_false, closes_begun}
 use Rattle.propagation.proofs.close.close_with.Goals as goal
+use Rattle.propagation.proofs.close.close_with.Goals.{then-literal-lt0, else-literal-lt0}
 
 -- the byte by the sign
 below_byte : (l : ℤ) → lt_z l (pos 0) ≡ true → byte_of l ≡ 2
@@ -29,22 +33,14 @@ above_byte : (l : ℤ) → lt_z l (pos 0) ≡ false → byte_of l ≡ 1
 above_byte (pos k) e = refl
 above_byte (negsuc k) e = absurd (subst T e tt)
 
-module _ (c : goal.After-mark_index-p) where
+-- what an undecided literal l says of the marks, where p is its place
+module _ (s : ClauseSet) (marks sums : List ℕ) (decided : ℕ) (l : ℤ) (ok : StateOk s marks sums decided) (lit : Literal l) (undone : T (is_decided marks l) → ⊥)
+    (p : ℕ) (is_place : p ≡ place_at l) where
+  undecided : Undecided marks p
+  undecided = subst (Undecided marks) (sym is_place) (place_below l lit, open_byte marks ok.marks.marks l lit undone)
 
-  abbrev l : ℤ
-  l = c.args.literal
-
-  abbrev marks : List ℕ
-  marks = c.args.marks.now
-
-  is_place : c.mark_index-p.result ≡ place_at l
-  is_place = c.mark_index-p.ensures ∙ ap mark_index (read l c.fits.literal) ∙ index_place l c.requires.1
-
-  undecided : Undecided marks c.mark_index-p.result
-  undecided = subst (Undecided marks) (sym is_place) (place_below l c.requires.1, open_byte marks c.requires.0.marks.marks l c.requires.1 c.requires.2)
-
-  struck : Struck c.args.set marks
-  struck = closed_struck c.args.set marks c.requires.0.marks.closed
+  struck : Struck s marks
+  struck = closed_struck s marks ok.marks.closed
 
   -- the marks with the literal
   abbrev marked : List ℕ
@@ -52,35 +48,71 @@ module _ (c : goal.After-mark_index-p) where
 
   module _ {m' a' ls' : List ℕ} {w' : Work} where
     -- a place that is false
-    begun_false : byte_of l ≡ 2 → m' ≡ set marks c.mark_index-p.result 2 → Ready c.args.set (λ x. ⊥) m' a' ls' w' → Stepped c.args.set marked m' a' ls' w'
+    begun_false : byte_of l ≡ 2 → m' ≡ set marks p 2 → Ready s (λ x. ⊥) m' a' ls' w' → Stepped s marked m' a' ls' w'
     begun_false b e r =
-        let s = c.args.set in
         let q : m' ≡ marked = e ∙ ap (λ p. set marks p 2) is_place ∙ ap (set marks (place_at l)) (sym b) in
         let z = subst (Undecided marks) is_place undecided in
-        subst (λ y. Stepped s y m' a' ls' w') q (stepped_none s r (subst (Struck s) (sym (e ∙ ap (λ p. set marks p 2) is_place)) (struck_false s marks (place_at l) c.requires.0.marks.marks z struck)))
+        subst (λ y. Stepped s y m' a' ls' w') q
+        (stepped_none s r (subst (Struck s) (sym (e ∙ ap (λ p. set marks p 2) is_place)) (struck_false s marks (place_at l) ok.marks.marks z struck)))
 
     -- a place that is true
-    begun_true : byte_of l ≡ 1 → Stepped c.args.set (set marks c.mark_index-p.result 1) m' a' ls' w' → Stepped c.args.set marked m' a' ls' w'
-    begun_true b v = subst (λ y. Stepped c.args.set y m' a' ls' w') (ap (λ p. set marks p 1) is_place ∙ ap (set marks (place_at l)) (sym b)) v
+    begun_true : byte_of l ≡ 1 → Stepped s (set marks p 1) m' a' ls' w' → Stepped s marked m' a' ls' w'
+    begun_true b v = subst (λ y. Stepped s y m' a' ls' w') (ap (λ p. set marks p 1) is_place ∙ ap (set marks (place_at l)) (sym b)) v
+
+-- the place that is computed
+computed : {k : ℕ} {l l' : ℤ} → k ≡ mark_index l' → l' ≡ l → Literal l → k ≡ place_at l
+computed e r lit = e ∙ ap mark_index r ∙ index_place _ lit
 
 pub assign-begun-requires : goal.assign-begun-requires
 assign-begun-requires c =
-    (state_ready c.args.set c.requires.0 c.room.ensures, undecided c, (omega arith, omega arith))
+    let a = c.args in
+    let r = c.requires in
+    let p = computed c.mark_index-p.ensures (read a.literal c.ranges.literal) r.1 in
+    (state_ready a.set r.0 c.room.ensures, undecided a.set a.marks.now a.sums.now a.decided a.literal r.0 r.1 r.2 _ p, (omega arith, omega arith))
 
 pub affirm-begun-requires : goal.affirm-begun-requires
 affirm-begun-requires c =
-    (state_ready c.args.set c.requires.0 c.room.ensures, struck c, undecided c)
+    let a = c.args in
+    let r = c.requires in
+    let p = computed c.mark_index-p.ensures (read a.literal c.ranges.literal) r.1 in (
+      state_ready a.set r.0 c.room.ensures,
+      struck a.set a.marks.now a.sums.now a.decided a.literal r.0 r.1 r.2 _ p,
+      undecided a.set a.marks.now a.sums.now a.decided a.literal r.0 r.1 r.2 _ p,
+    )
 
 pub propagate-requires : goal.propagate-requires
 propagate-requires c =
-    let begun : Stepped c.args.set (marked c) c.if-literal-lt0.marks c.if-literal-lt0.sums c.if-literal-lt0.list c.if-literal-lt0.begun = ⊎_elim
-    (λ w. rw (w.5, w.6, w.7, w.8) (begun_false c (below_byte (l c) (test_of (λ z. lt_z z (pos 0)) true (l c) c.fits.literal w.0.true)) w.4.ensures.0 w.4.ensures.2))
-    (λ w. rw (w.5, w.6, w.7, w.8) (begun_true c (above_byte (l c) (test_of (λ z. lt_z z (pos 0)) false (l c) c.fits.literal w.0.left)) w.4.ensures.0)) c.if-literal-lt0.branch in
-    let v = begun in (v.ready, v.struck)
+    let a = c.args in
+    let r = c.requires in
+    let i = c.if-literal-lt0 in
+    let p = computed c.mark_index-p.ensures (read a.literal c.ranges.literal) r.1 in
+    let v : Stepped a.set (set a.marks.now (place_at a.literal) (byte_of a.literal)) i.marks i.sums i.list i.begun = elim i.branch [
+      | then-literal-lt0 w ↦
+          rw (w.marks-is, w.sums-is, w.list-is, w.begun-is)
+          (begun_false a.set a.marks.now a.sums.now a.decided a.literal r.0 r.1 r.2 _ p
+          (below_byte a.literal (test_of (λ z. lt_z z (pos 0)) true a.literal c.ranges.literal w.if-literal-lt0.true)) w.assign-begun.ensures.0 w.assign-begun.ensures.2)
+      | else-literal-lt0 w ↦
+          rw (w.marks-is, w.sums-is, w.list-is, w.begun-is)
+          (begun_true a.set a.marks.now a.sums.now a.decided a.literal r.0 r.1 r.2 _ p
+          (above_byte a.literal (test_of (λ z. lt_z z (pos 0)) false a.literal c.ranges.literal w.if-literal-lt0.false)) w.affirm-begun.ensures.0)
+    ] in
+    (v.ready, v.struck)
 
 pub returns : goal.returns
 returns c =
-    let begun : Stepped c.args.set (marked c) c.if-literal-lt0.marks c.if-literal-lt0.sums c.if-literal-lt0.list c.if-literal-lt0.begun = ⊎_elim
-    (λ w. rw (w.5, w.6, w.7, w.8) (begun_false c (below_byte (l c) (test_of (λ z. lt_z z (pos 0)) true (l c) c.fits.literal w.0.true)) w.4.ensures.0 w.4.ensures.2))
-    (λ w. rw (w.5, w.6, w.7, w.8) (begun_true c (above_byte (l c) (test_of (λ z. lt_z z (pos 0)) false (l c) c.fits.literal w.0.left)) w.4.ensures.0)) c.if-literal-lt0.branch in
-    closes_begun c.args.set (marks c) (marked c) c.if-literal-lt0.marks (has_set (marks c) (l c) c.requires.0.marks.marks c.requires.1 (open_byte (marks c) c.requires.0.marks.marks (l c) c.requires.1 c.requires.2)) begun c.propagate.ensures
+    let a = c.args in
+    let r = c.requires in
+    let i = c.if-literal-lt0 in
+    let p = computed c.mark_index-p.ensures (read a.literal c.ranges.literal) r.1 in
+    let v : Stepped a.set (set a.marks.now (place_at a.literal) (byte_of a.literal)) i.marks i.sums i.list i.begun = elim i.branch [
+      | then-literal-lt0 w ↦
+          rw (w.marks-is, w.sums-is, w.list-is, w.begun-is)
+          (begun_false a.set a.marks.now a.sums.now a.decided a.literal r.0 r.1 r.2 _ p
+          (below_byte a.literal (test_of (λ z. lt_z z (pos 0)) true a.literal c.ranges.literal w.if-literal-lt0.true)) w.assign-begun.ensures.0 w.assign-begun.ensures.2)
+      | else-literal-lt0 w ↦
+          rw (w.marks-is, w.sums-is, w.list-is, w.begun-is)
+          (begun_true a.set a.marks.now a.sums.now a.decided a.literal r.0 r.1 r.2 _ p
+          (above_byte a.literal (test_of (λ z. lt_z z (pos 0)) false a.literal c.ranges.literal w.if-literal-lt0.false)) w.affirm-begun.ensures.0)
+    ] in
+    closes_begun a.set a.marks.now (set a.marks.now (place_at a.literal) (byte_of a.literal)) i.marks
+    (has_set a.marks.now a.literal r.0.marks.marks r.1 (open_byte a.marks.now r.0.marks.marks a.literal r.1 r.2)) v c.propagate.ensures

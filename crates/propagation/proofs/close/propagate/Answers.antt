@@ -12,8 +12,7 @@ use Rattle.propagation.proofs.Closing.{stepped_closes}
 use Rattle.propagation.proofs.close.propagate.Goals as goal
 
 -- the loop that a look is in
-abbrev turn : goal.After-look-looked → goal.At-loop-w
-turn d = d
+
 
 pub loop-w-init : goal.loop-w-init
 loop-w-init c = stepped_none c.args.set c.requires.0 c.requires.1
@@ -23,23 +22,20 @@ look-looked-requires c = let v = c.loop-w.invariant in (v.ready, v.struck, c.loo
 
 pub returns-in-Clash : goal.returns-in-Clash
 returns-in-Clash c =
-    let l = turn c in
-    let a = l.args in
-    let x = subst (LookedOk a.set l.loop-w.w l.loop-w.marks c.look-looked.new.marks c.look-looked.new.sums c.look-looked.new.list) c.in-Clash.is c.look-looked.ensures in
-    record { answer = clashes_back a.set a.marks.now l.loop-w.marks l.loop-w.invariant.follows x; state = tt }
+    let a = c.args in
+    let x = subst (LookedOk a.set c.loop-w.w c.loop-w.marks c.look-looked.new.marks c.look-looked.new.sums c.look-looked.new.list) c.in-Clash.is c.look-looked.ensures in
+    record { answer = clashes_back a.set a.marks.now c.loop-w.marks c.loop-w.invariant.follows x; state = tt }
 
 pub loop-w-smaller : goal.loop-w-smaller
 loop-w-smaller c =
-    let looked : Stepped (turn c).args.set (turn c).loop-w.marks c.look-looked.new.marks c.look-looked.new.sums c.look-looked.new.list c.in-On.next × Less (turn c).loop-w.w c.in-On.next = let l = turn c in
-    subst (LookedOk l.args.set l.loop-w.w l.loop-w.marks c.look-looked.new.marks c.look-looked.new.sums c.look-looked.new.list) c.in-On.is c.look-looked.ensures in
+    let looked : Stepped c.args.set c.loop-w.marks c.look-looked.new.marks c.look-looked.new.sums c.look-looked.new.list c.in-On.next × Less c.loop-w.w c.in-On.next = subst (LookedOk c.args.set c.loop-w.w c.loop-w.marks c.look-looked.new.marks c.look-looked.new.sums c.look-looked.new.list) c.in-On.is c.look-looked.ensures in
     let r = looked.0.ready in
     ⊎_elim (λ h. omega (arith, h, r.room, r.count, decided_bounded c.look-looked.new.marks)) (λ h. omega (arith, h.0, h.1)) looked.1
 
 pub loop-w-preserved : goal.loop-w-preserved
 loop-w-preserved c =
-    let looked : Stepped (turn c).args.set (turn c).loop-w.marks c.look-looked.new.marks c.look-looked.new.sums c.look-looked.new.list c.in-On.next × Less (turn c).loop-w.w c.in-On.next = let l = turn c in
-    subst (LookedOk l.args.set l.loop-w.w l.loop-w.marks c.look-looked.new.marks c.look-looked.new.sums c.look-looked.new.list) c.in-On.is c.look-looked.ensures in
-    let l = turn c in stepped_more l.args.set l.loop-w.invariant looked.0
+    let looked : Stepped c.args.set c.loop-w.marks c.look-looked.new.marks c.look-looked.new.sums c.look-looked.new.list c.in-On.next × Less c.loop-w.w c.in-On.next = subst (LookedOk c.args.set c.loop-w.w c.loop-w.marks c.look-looked.new.marks c.look-looked.new.sums c.look-looked.new.list) c.in-On.is c.look-looked.ensures in
+    stepped_more c.args.set c.loop-w.invariant looked.0
 
 pub returns : goal.returns
 returns c = stepped_closes c.args.set c.loop-w.invariant (omega (arith, c.loop-w-test.false))
