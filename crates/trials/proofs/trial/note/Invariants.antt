@@ -1,0 +1,15 @@
+-- The bytes before the place are joined, and the others as they were.
+use mathlib.Core.Path.{◌≡◌, refl, ap, sym, ◌∙◌}
+use Prim.Native.Nat.{ℕ, ◌-◌, ◌≤◌, ◌<◌}
+use native.Mathlib.Decide.{ℕ_discrete}
+use native.Mathlib.Omega.{arith}
+use lib.Bits.{bit_or}
+use lib.ListN.{length, get_or, set, length-set}
+use lib.Seq.{get_or-set_same, get_or-set_other}
+use Rattle.trials.proofs.trial.note.Given as goal
+
+abbrev pub invariant-loop-i : goal.invariant-loop-i
+invariant-loop-i l = (l.i ≤ 729) × (length l.known ≡ 729) × ((p : ℕ) → p < l.i → get_or l.known p 0 ≡ bit_or (get_or l.initial.known p 0) (get_or l.marks p 0)) × ((p : ℕ) → l.i ≤ p → get_or l.known p 0 ≡ get_or l.initial.known p 0)
+
+abbrev pub decreases-loop-i : goal.decreases-loop-i
+decreases-loop-i l = 729 - l.i
