@@ -27,7 +27,7 @@ close_with-joined-requires c =
     let negated : to_z w16 (of_z w16 c.negated.result) ≡ neg_ℤ l = returned _ c.negated.type_inv ∙ c.negated.ensures ∙ ap negation (read l c.ranges.literal) ∙ negation_is l c.requires.2 in
     let negation-ok : Literal (neg_ℤ l) = (negation_literal l c.requires.2).0 in
     let negation-open : T (is_decided marks (neg_ℤ l)) → ⊥ = open_negation marks l c.requires.3 in
-    (c.requires.0, subst Literal (sym negated) negation-ok, subst (λ x. T (is_decided (marks c) x) → ⊥) (sym negated) negation-open)
+    (c.requires.0, subst Literal (sym negated) negation-ok, subst (λ x. T (is_decided marks x) → ⊥) (sym negated) negation-open)
 
 pub returns-in-Decided : goal.returns-in-Decided
 returns-in-Decided c =

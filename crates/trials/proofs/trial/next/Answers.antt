@@ -58,7 +58,7 @@ returns-then-is_named c =
     let shows : (s : Step) → s ≡ try (unit_closure (clauses_of c.args.set) (mark marks l)) (λ u. unit_closure (clauses_of c.args.set) (mark marks (neg_ℤ l))) → thereafter s ≡ Next = λ s e. next_tried (clauses_of c.args.set) c.args.ceiling marks c.args.count l c.args.failed undecided (λ q. omega (arith, below, q)) s e in
     let named : Named c.args.known.now l =
     subst (λ p. Names (get_or c.args.known.now p 0) l) is-index (subst (Names (get_or c.args.known.now c.mark_index-at.result 0)) (read l c.ranges.literal) (c.is_named.ensures c.if-is_named.true)) in (
-      shows kept (known_kept c.args.set marks l c.requires.1 undecided (c.requires.0.known-1.succeeds l c.requires.1 named) (λ u. unit_closure (clauses_of c.args.set) (mark marks (neg_ℤ l)))),
+      shows kept (known_kept c.args.set marks l c.requires.1 undecided (c.requires.0.known.succeeds l c.requires.1 named) (λ u. unit_closure (clauses_of c.args.set) (mark marks (neg_ℤ l)))),
       (omega (arith, below), c.requires.0),
     )
 
@@ -70,7 +70,7 @@ attempt-shown-requires c =
     let is_place : c.mark_index-at.result ≡ place_at l = is-index ∙ index_place l c.requires.1 in
     let undecided : T (is_decided marks l) → ⊥ = byte_open marks l c.requires.1 (ap (λ x. get_or marks x 0) (sym is_place) ∙ c.if-marks-at-ne0.false) in
     let r = read l c.ranges.literal in
-    (c.requires.0.state, c.requires.0.known-1, subst Literal (sym r) c.requires.1, subst (λ x. T (is_decided marks x) → ⊥) (sym r) undecided)
+    (c.requires.0.state, c.requires.0.known, subst Literal (sym r) c.requires.1, subst (λ x. T (is_decided marks x) → ⊥) (sym r) undecided)
 
 pub returns-then-more-eq729 : goal.returns-then-more-eq729
 returns-then-more-eq729 c =

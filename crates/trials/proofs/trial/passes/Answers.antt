@@ -1,7 +1,7 @@
 -- What is left of the passes goes on from the state that has been reached.
 use mathlib.Core.Path.{◌≡◌, refl, ap, sym, subst, ◌∙◌}
 use mathlib.Core.Bool.{Bool, true, false, not}
-use Prim.Native.Nat.{◌-◌, ◌≤◌}
+use Prim.Native.Nat.{ℕ, ◌-◌, ◌≤◌}
 use native.Mathlib.Omega.{arith}
 use borrow.Author.Rules.{rules}
 use Rattle.clauses.specs.Clauses.{clauses_of}
@@ -13,17 +13,9 @@ use Rattle.trials.proofs.Knowing.{possible_known}
 use Rattle.trials.proofs.Walking.{passes_next, passes_end}
 use Rattle.trials.proofs.trial.passes.Goals as goal
 
--- the case by whether trial has failed
-failed_is : (f b : Bool) → not f ≡ not b → f ≡ b
-failed_is true true e = refl
-failed_is false false e = refl
-failed_is true false e = sym e
-failed_is false true e = sym e
-
-by_failed : (c : goal.In-Walked) (b : Bool) → not c.in-Walked.failed ≡ not b
-    → c.walk-pass.result ≡ Walked c.in-Walked.e c.in-Walked.c b
-by_failed c b e =
-    c.in-Walked.is ∙ ap (Walked c.in-Walked.e c.in-Walked.c) (failed_is c.in-Walked.failed b e)
+-- the case by whether a trial has failed
+by_failed : {r : Pass} {d n : ℕ} (f b : Bool) → r ≡ Walked d n f → f ≡ b → r ≡ Walked d n b
+by_failed {d = d} {n = n} f b e h = e ∙ ap (Walked d n) h
 
 pub loop-left-init : goal.loop-left-init
 loop-left-init c =
@@ -43,7 +35,7 @@ returns-then-not-failed c =
     ∙ c.loop-left.invariant.2 in
     let good : (p : Pass) → c.walk-pass.result ≡ p
     → PassOk c.args.set c.args.ceiling c.walk-pass.new.marks c.walk-pass.new.sums c.walk-pass.new.known c.args.possible.now p = λ p e. subst (PassOk c.args.set c.args.ceiling c.walk-pass.new.marks c.walk-pass.new.sums c.walk-pass.new.known c.args.possible.now) e c.walk-pass.ensures.1 in
-    let e = by_failed c false c.if-not-failed.true in
+    let e = by_failed c.in-Walked.failed false c.in-Walked.is c.if-not-failed.true in
     (went _ e, (good _ e).1.state.count)
 
 pub returns-in-Ended : goal.returns-in-Ended
@@ -68,17 +60,17 @@ loop-left-preserved c =
     ∙ c.loop-left.invariant.2 in
     let good : (p : Pass) → c.walk-pass.result ≡ p
     → PassOk c.args.set c.args.ceiling c.walk-pass.new.marks c.walk-pass.new.sums c.walk-pass.new.known c.args.possible.now p = λ p e. subst (PassOk c.args.set c.args.ceiling c.walk-pass.new.marks c.walk-pass.new.sums c.walk-pass.new.known c.args.possible.now) e c.walk-pass.ensures.1 in
-    let e = by_failed c true c.if-not-failed.false in
+    let e = by_failed c.in-Walked.failed true c.in-Walked.is c.if-not-failed.false in
     let g = good _ e in
     (g.1, g.0, went _ e)
 
 pub returns : goal.returns
 returns c =
-    let c = c.args in
-    let z : c.loop.left ≡ 0 = omega (arith, c.loop-test.false) in (
-      passes_end (clauses_of c.set) c.ceiling c.order.now c.loop.marks c.loop.n
-          ∙ ap (λ x. passes (clauses_of c.set) c.ceiling x c.order.now c.loop.marks c.loop.n) (sym z) ∙ c.loop.invariant.2,
-      c.loop.invariant.0.state.count,
+    let a = c.args in
+    let z : c.loop-left.left ≡ 0 = omega (arith, c.loop-left-test.false) in (
+      passes_end (clauses_of a.set) a.ceiling a.order.now c.loop-left.marks c.loop-left.n
+          ∙ ap (λ x. passes (clauses_of a.set) a.ceiling x a.order.now c.loop-left.marks c.loop-left.n) (sym z) ∙ c.loop-left.invariant.2,
+      c.loop-left.invariant.0.state.count,
     )
 
 pub loop-left-smaller : goal.loop-left-smaller

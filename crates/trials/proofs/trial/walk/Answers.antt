@@ -65,7 +65,7 @@ loop-i-preserved c =
 
 pub returns : goal.returns
 returns c =
-    let c = c.args in (
-      rest_end (clauses_of c.set) c.ceiling c.order.now c.loop.i c.loop.marks c.loop.n c.loop.failed c.loop-test.false ∙ c.loop.invariant.3,
-      (c.loop.invariant.2, c.loop.invariant.1),
+    let a = c.args in (
+      rest_end (clauses_of a.set) a.ceiling a.order.now c.loop-i.i c.loop-i.marks c.loop-i.n c.loop-i.failed c.loop-i-test.false ∙ c.loop-i.invariant.3,
+      (c.loop-i.invariant.2, c.loop-i.invariant.1),
     )
