@@ -1,17 +1,11 @@
 -- The first 2 k entries are the default order's; after 729 turns all are.
-use mathlib.Core.Path.{◌≡◌, refl, ap, sym, ◌∙◌}
+use mathlib.Core.Path.{◌≡◌}
 use mathlib.Core.List.{List}
-use Prim.Native.Nat.{ℕ, suc, ◌+◌, ◌*◌, ◌-◌, ◌≤◌, ◌<◌}
-use native.Mathlib.Decide.{ℕ_discrete}
-use native.Mathlib.Omega.{arith}
-use lib.IntN.{ℤ, pos, negsuc}
-use lib.ListN.{length, set, length-set}
-use lib.Seq.{ext_get_or, get_or-set_same, get_or-set_other}
-use Rattle.clauses.specs.Literal.{Literal}
-use Rattle.clauses.proofs.Signed.{returned}
+use Prim.Native.Nat.{ℕ, ◌*◌, ◌-◌, ◌≤◌, ◌<◌}
+use lib.IntN.{ℤ}
+use lib.ListN.{length}
 use Rattle.orders.specs.Order.{default_order}
-use Rattle.orders.specs.Place.{table_place}
-use Rattle.orders.proofs.Orders.{entry, place_below, default_long, default_at}
+use Rattle.orders.proofs.Orders.{entry}
 use Rattle.orders.proofs.order.default_order.Given as goal
 
 -- the first n entries are the default order's

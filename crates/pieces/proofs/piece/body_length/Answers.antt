@@ -1,5 +1,6 @@
 -- Each arm's length is that of its kind.
 use mathlib.Core.Path.{ap, sym}
+use native.Mathlib.Omega.{arith}
 use borrow.Author.Tests.{ne_eqb}
 use Rattle.pieces.specs.Pieces.{body_length}
 use Rattle.pieces.proofs.piece.body_length.Goals as goal
@@ -20,5 +21,4 @@ pub returns-in_default : goal.returns-in_default
 unfolding body_length
 returns-in_default c =
     let k = c.args.kind in
-    let other = c.in-1.rest in
-    rw (ne_eqb k 1 other.0.0.1, ne_eqb k 2 other.0.1, ne_eqb k 3 other.1)
+    rw (ne_eqb k 1 (omega arith), ne_eqb k 2 (omega arith), ne_eqb k 3 (omega arith))

@@ -1,6 +1,5 @@
 -- The walk, then the two tests at the end of the file.
 use mathlib.Core.Path.{◌≡◌, ap, sym, ◌∙◌}
-use borrow.Author.Rules.{rules}
 use borrow.Author.Tests.{eq-eqb, ne_eqb}
 use Rattle.grid.specs.Refusals.{refusal}
 use Rattle.pieces.specs.Pieces.{complete, pieces_of}
@@ -21,16 +20,12 @@ module _ (b : Bodies) where
 pub returns-then-bodies-eq0 : goal.returns-then-bodies-eq0
 unfolding pieces_of
 returns-then-bodies-eq0 c =
-    let bodies : Bodies = c.in-Whole.bodies in
-    let walked_whole : complete (Whole bodies) ≡ pieces_of c.args.file.now = ap complete (sym c.in-Whole.is ∙ c.walk-found.ensures) in
-    c.missing.ensures ∙ no_grid bodies c.if-bodies-eq0.true ∙ walked_whole
+    c.missing.ensures ∙ no_grid c.in-Whole.bodies c.if-bodies-eq0.true ∙ ap complete (sym c.in-Whole.is ∙ c.walk-found.ensures)
 
 pub returns-then-bodies-eq0-2 : goal.returns-then-bodies-eq0-2
 unfolding pieces_of
 returns-then-bodies-eq0-2 c =
-    let bodies : Bodies = c.in-Whole.bodies in
-    let walked_whole : complete (Whole bodies) ≡ pieces_of c.args.file.now = ap complete (sym c.in-Whole.is ∙ c.walk-found.ensures) in
-    c.missing-then-bodies-eq0-2.ensures ∙ no_technique bodies c.if-bodies-eq0.false c.if-bodies-eq0-2.true ∙ walked_whole
+    c.missing-then-bodies-eq0-2.ensures ∙ no_technique c.in-Whole.bodies c.if-bodies-eq0.false c.if-bodies-eq0-2.true ∙ ap complete (sym c.in-Whole.is ∙ c.walk-found.ensures)
 
 pub returns-in-Refused : goal.returns-in-Refused
 unfolding pieces_of
@@ -39,6 +34,4 @@ returns-in-Refused c = ap complete (sym c.in-Refused.is ∙ c.walk-found.ensures
 pub returns-else-bodies-eq0-2 : goal.returns-else-bodies-eq0-2
 unfolding pieces_of
 returns-else-bodies-eq0-2 c =
-    let bodies : Bodies = c.in-Whole.bodies in
-    let walked_whole : complete (Whole bodies) ≡ pieces_of c.args.file.now = ap complete (sym c.in-Whole.is ∙ c.walk-found.ensures) in
-    both bodies c.if-bodies-eq0.false c.if-bodies-eq0-2.false ∙ walked_whole
+    both c.in-Whole.bodies c.if-bodies-eq0.false c.if-bodies-eq0-2.false ∙ ap complete (sym c.in-Whole.is ∙ c.walk-found.ensures)

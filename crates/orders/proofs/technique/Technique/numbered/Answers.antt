@@ -1,6 +1,6 @@
 -- Each arm's number is that of its technique, and no other number has one.
 use mathlib.Core.Path.{ap, sym, ◌∙◌}
-use borrow.Author.Rules.{rules}
+use native.Mathlib.Omega.{arith}
 use borrow.Author.Tests.{ne_eqb}
 use Rattle.orders.specs.Technique.{technique_of}
 use Rattle.orders.specs.declared.technique.Numbered.TheVariants.{Known}
@@ -26,5 +26,4 @@ pub returns-in_default : goal.returns-in_default
 unfolding technique_of
 returns-in_default c =
     let n = c.args.number in
-    let other = c.in-1.rest in
-    rw (ne_eqb n 1 other.0.0.0.1, ne_eqb n 2 other.0.0.1, ne_eqb n 3 other.0.1, ne_eqb n 4 other.1)
+    rw (ne_eqb n 1 (omega arith), ne_eqb n 2 (omega arith), ne_eqb n 3 (omega arith), ne_eqb n 4 (omega arith))
