@@ -1,0 +1,7 @@
+-- Nothing is known to succeed.
+use borrow.Author.Rules.{rules}
+use Rattle.trials.proofs.Knowing.{completion_none}
+use Rattle.inference.proofs.job.run.Goals as goal
+
+pub run_with-requires : goal.run_with-requires
+run_with-requires c = (c.requires.0, c.requires.1, completion_none c.args.grid.now)
