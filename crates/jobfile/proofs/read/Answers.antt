@@ -3,7 +3,6 @@ use mathlib.Core.Path.{◌≡◌, refl, sym, ◌∙◌}
 use mathlib.Core.Bool.{Bool, true, false, cond}
 use mathlib.Core.List.{List}
 use Prim.Native.Nat.{ℕ}
-use borrow.Author.Rules.{rules}
 use borrow.Author.Tests.{eqb-true}
 use lib.Dec.{eqb}
 use lib.IntN.{ℤ}
@@ -14,11 +13,9 @@ use Rattle.grid.specs.declared.Checked.TheVariants as check
 use Rattle.grid.proofs.Completion.{not_accepted}
 use Rattle.pieces.specs.Pieces.{pieces_of}
 use Rattle.pieces.specs.declared.piece.Pieces.{Pieces}
-use Rattle.pieces.specs.declared.piece.Pieces.TheVariants.{Whole}
 use Rattle.pieces.proofs.Walking.{pieces_readable}
 use Rattle.jobfile.specs.Call.{lent_check, refused, on_whole, read_bodies, read_call}
-use Rattle.jobfile.proofs.read.Statement.{statement}
-use Rattle.jobfile.proofs.read.Tie as tie
+use Rattle.jobfile.proofs.read.Goals as goal
 
 -- by what the check and the pieces say
 tested : (f g : List ℕ) (o : List ℤ) (w : Checked) (p : Pieces) → w ≡ lent_check (length g) (length o) → p ≡ pieces_of f
@@ -37,44 +34,19 @@ lent_accepted g o e = go (eqb g 81) (eqb o 1458) refl refl (sym e)
     go true false p q e = absurd (not_accepted _ e)
     go false y p q e = absurd (not_accepted _ e)
 
-returns : tie.Need-returns
-returns c =
-    let k = c.before.before.before in
-    tested _ _ _ _ _ (sym c.before.lent.given.1 ∙ k.check-lent.ensures) refl
+pub returns-in-Refused : goal.returns-in-Refused
+returns-in-Refused c = tested _ _ _ _ _ (sym c.in-Refused.is ∙ c.check_lent-lent.ensures) refl
 
-module _ (c : tie.After-read-pieces) where
-  abbrev start : tie.Start
-  start = c.before.before.before.before.before.before
+pub returns-in-Refused-found : goal.returns-in-Refused-found
+returns-in-Refused-found c =
+    tested _ _ _ _ _ (sym c.in-Accepted.is ∙ c.check_lent-lent.ensures) (sym c.in-Refused-found.is ∙ c.read_pieces-found.ensures)
 
-  lent_ok : check.Accepted ≡ lent_check (length start.args.grid.now) (length start.args.order.now)
-  lent_ok = sym c.before.enum_told.given.1 ∙ c.before.before.before.check-lent.ensures
+pub read_bodies-requires : goal.read_bodies-requires
+read_bodies-requires c =
+    let l = lent_accepted _ _ (sym c.in-Accepted.is ∙ c.check_lent-lent.ensures) in
+    (pieces_readable _ _ (sym c.in-Whole.is ∙ c.read_pieces-found.ensures), l.0, l.1)
 
-returns-2 : tie.Need-returns-2
-returns-2 c =
-    let k = c.before.before.before in
-    tested _ _ _ _ _ (lent_ok k) (sym c.before.found.given.1 ∙ k.read-pieces.ensures)
-
-module _ (c : tie.After-found2) where
-  abbrev call : tie.After-read-pieces
-  call = c.before.before
-
-  found : Whole c.found2.given.0.0 ≡ pieces_of (start call).args.file.now
-  found = sym c.found2.given.1 ∙ call.read-pieces.ensures
-
-read-bodies-requires : tie.Need-read-bodies-requires
-read-bodies-requires c κs =
-    let w = c.before.before.before in
-    let l = lent_accepted _ _ (lent_ok (call w)) in
-    (pieces_readable _ _ (found w), l.0, l.1)
-
-returns-3 : tie.Need-returns-3
-returns-3 c =
-    let r = c.before.before.before in
-    let w = r.before.before.before.before in
-    r.read-bodies.ensures ∙ tested _ _ _ _ _ (lent_ok (call w)) (found w)
-
-pub read_spec : {M : Type 1} → statement M
-read_spec =
-    tie.close
-    (tie.spec (λ c κs. search rules) (λ c. search rules) (λ c. search rules) (λ c κs. search rules) (λ c. search rules) (λ c. search rules)
-    read-bodies-requires returns returns-2 (λ c. search rules) (λ c. search rules) returns-3)
+pub returns-in-Whole : goal.returns-in-Whole
+returns-in-Whole c =
+    c.read_bodies.ensures
+    ∙ tested _ _ _ _ _ (sym c.in-Accepted.is ∙ c.check_lent-lent.ensures) (sym c.in-Whole.is ∙ c.read_pieces-found.ensures)
