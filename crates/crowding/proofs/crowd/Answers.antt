@@ -2,5 +2,3 @@
 use Prim.Native.Nat.{◌-◌}
 use borrow.Author.Rules.{rules}
 use Rattle.crowding.proofs.crowd.Goals as goal
-
-

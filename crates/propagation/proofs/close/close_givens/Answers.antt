@@ -55,7 +55,7 @@ returns-in-Clash c =
     let i = c.loop-i.i in
     let n = before_given a.set a.grid.now i c.loop-i.marks (digit a.grid.now i c.is_digit.ensures c.if-is_digit.true) c.loop-i.invariant.2 c.close_true-closed.ensures in
     let e : Closes (UnitClosed (clauses_of a.set)) (Before a.set a.grid.now (i + 1)) clash =
-        subst (λ r. Closes (UnitClosed (clauses_of a.set)) (Before a.set a.grid.now (i + 1)) (answer_of r c.close_true-closed.new.marks)) c.in-Clash.is n in
+    subst (λ r. Closes (UnitClosed (clauses_of a.set)) (Before a.set a.grid.now (i + 1)) (answer_of r c.close_true-closed.new.marks)) c.in-Clash.is n in
     record { answer = contradiction_mono (least_mono (λ S u. u) (before_some a.set a.grid.now (i + 1) (omega (arith, c.loop-i-test.true)))) e; state = tt }
 
 pub loop-i-preserved : goal.loop-i-preserved

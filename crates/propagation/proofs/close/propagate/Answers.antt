@@ -13,7 +13,6 @@ use Rattle.propagation.proofs.close.propagate.Goals as goal
 
 -- the loop that a look is in
 
-
 pub loop-w-init : goal.loop-w-init
 loop-w-init c = stepped_none c.args.set c.requires.0 c.requires.1
 

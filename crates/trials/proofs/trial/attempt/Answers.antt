@@ -53,8 +53,7 @@ returns-in-Decided-joined c =
     let negation-open : T (is_decided marks (neg_ℤ l)) → ⊥ = open_negation marks l c.requires.3 in
     let second-closes : ClosesTo c.args.set (With (has marks) (neg_ℤ l)) c.close_with-joined.new.marks c.close_with-joined.new.sums c.close_with-joined.result = subst (λ k. ClosesTo c.args.set (With (has marks) k) c.close_with-joined.new.marks c.close_with-joined.new.sums c.close_with-joined.result) negated c.close_with-joined.ensures in
     let second : answer_of c.close_with-joined.result c.close_with-joined.new.marks ≡ closure (neg_ℤ l) = closes_computed c.args.set marks (neg_ℤ l) c.requires.0.marks.marks negation-ok negation-open second-closes in
-    let failed : c.close_with-tried.result ≡ Clash = c.in-Clash.is in
-    (
+    let failed : c.close_with-tried.result ≡ Clash = c.in-Clash.is in (
       try_refuted (closure l) (closure (neg_ℤ l)) c.close_with-tried.result c.close_with-tried.new.marks first failed
           c.close_with-joined.result c.close_with-joined.new.marks second c.in-Decided-joined.is,
       (closes_state second-closes _ c.in-Decided-joined.is, possible_joined c.args.set marks c.close_with-joined.new.marks l c.requires.2 (λ y. y (closes_answer first-closes Clash failed)) (closes_answer second-closes _ c.in-Decided-joined.is)),
@@ -72,8 +71,7 @@ returns-in-Clash-joined c =
     let negation-open : T (is_decided marks (neg_ℤ l)) → ⊥ = open_negation marks l c.requires.3 in
     let second-closes : ClosesTo c.args.set (With (has marks) (neg_ℤ l)) c.close_with-joined.new.marks c.close_with-joined.new.sums c.close_with-joined.result = subst (λ k. ClosesTo c.args.set (With (has marks) k) c.close_with-joined.new.marks c.close_with-joined.new.sums c.close_with-joined.result) negated c.close_with-joined.ensures in
     let second : answer_of c.close_with-joined.result c.close_with-joined.new.marks ≡ closure (neg_ℤ l) = closes_computed c.args.set marks (neg_ℤ l) c.requires.0.marks.marks negation-ok negation-open second-closes in
-    let failed : c.close_with-tried.result ≡ Clash = c.in-Clash.is in
-    (
+    let failed : c.close_with-tried.result ≡ Clash = c.in-Clash.is in (
       try_broken (closure l) (closure (neg_ℤ l)) c.close_with-tried.result c.close_with-tried.new.marks first failed
           c.close_with-joined.result c.close_with-joined.new.marks second c.in-Clash-joined.is,
       refl,

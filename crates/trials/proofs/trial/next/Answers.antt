@@ -88,8 +88,7 @@ returns-then-more-eq729 c =
     shows (tried_of s m') (ap (λ x. tried_of x m') (sym e) ∙ c.attempt-shown.ensures.0
     ∙ ap (λ x. try (unit_closure cs (mark marks x)) (λ u. unit_closure cs (mark marks (neg_ℤ x)))) (read l c.ranges.literal)) in
     let left : (s : Shown) → c.attempt-shown.result ≡ s → TriedOk c.args.set marks c.args.sums.now m' c.attempt-shown.new.sums c.attempt-shown.new.known s = λ s e. subst (TriedOk c.args.set marks c.args.sums.now m' c.attempt-shown.new.sums c.attempt-shown.new.known) e c.attempt-shown.ensures.1 in
-    let joined : TriedOk c.args.set marks c.args.sums.now m' c.attempt-shown.new.sums c.attempt-shown.new.known (Refuted c.in-Refuted.more) = left (Refuted c.in-Refuted.more) c.in-Refuted.is in
-    (
+    let joined : TriedOk c.args.set marks c.args.sums.now m' c.attempt-shown.new.sums c.attempt-shown.new.known (Refuted c.in-Refuted.more) = left (Refuted c.in-Refuted.more) c.in-Refuted.is in (
       next_solved marks m' c.args.count c.args.failed (sym joined.0.count ∙ c.if-more-eq729.true) ∙ tried (Refuted c.in-Refuted.more) c.in-Refuted.is,
       joined.0.count,
     )

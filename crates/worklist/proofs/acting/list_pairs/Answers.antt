@@ -18,12 +18,12 @@ pub list_run-column-requires : goal.list_run-column-requires
 list_run-column-requires c =
     let a = c.args in
     let cells : ListedTo a.marks.now (first_pair a.set) 1 a.p 0 a.list.now c.match-set.list c.match-set.beside c.match-set.cell =
-        elim c.match-set.branch [
-          | in-Minimal w ↦ to_named (ap first_pair w.in-Minimal.is) w.list-is w.beside-is w.cell-is (to_none a.marks.now 1 a.p a.list.now a.beside.now c.requires.2)
-          | in-Extended w ↦
-              to_named (ap first_pair w.in-Extended.is) w.list-is w.beside-is w.cell-is
-              (to_kind (omega arith) (to_run (omega arith) (to_none a.marks.now 0 a.p a.list.now a.beside.now c.requires.2) w.list_run-cell.ensures))
-        ] in
+    elim c.match-set.branch [
+      | in-Minimal w ↦ to_named (ap first_pair w.in-Minimal.is) w.list-is w.beside-is w.cell-is (to_none a.marks.now 1 a.p a.list.now a.beside.now c.requires.2)
+      | in-Extended w ↦
+          to_named (ap first_pair w.in-Extended.is) w.list-is w.beside-is w.cell-is
+          (to_kind (omega arith) (to_run (omega arith) (to_none a.marks.now 0 a.p a.list.now a.beside.now c.requires.2) w.list_run-cell.ensures))
+    ] in
     let h = first_below a.set in
     ((omega arith, omega arith, omega arith, inl (omega arith)), c.requires.0, cells.few, cells.front.long ∙ c.requires.1, c.requires.3)
 
@@ -31,12 +31,12 @@ pub list_run-row-requires : goal.list_run-row-requires
 list_run-row-requires c =
     let a = c.args in
     let cells : ListedTo a.marks.now (first_pair a.set) 1 a.p 0 a.list.now c.match-set.list c.match-set.beside c.match-set.cell =
-        elim c.match-set.branch [
-          | in-Minimal w ↦ to_named (ap first_pair w.in-Minimal.is) w.list-is w.beside-is w.cell-is (to_none a.marks.now 1 a.p a.list.now a.beside.now c.requires.2)
-          | in-Extended w ↦
-              to_named (ap first_pair w.in-Extended.is) w.list-is w.beside-is w.cell-is
-              (to_kind (omega arith) (to_run (omega arith) (to_none a.marks.now 0 a.p a.list.now a.beside.now c.requires.2) w.list_run-cell.ensures))
-        ] in
+    elim c.match-set.branch [
+      | in-Minimal w ↦ to_named (ap first_pair w.in-Minimal.is) w.list-is w.beside-is w.cell-is (to_none a.marks.now 1 a.p a.list.now a.beside.now c.requires.2)
+      | in-Extended w ↦
+          to_named (ap first_pair w.in-Extended.is) w.list-is w.beside-is w.cell-is
+          (to_kind (omega arith) (to_run (omega arith) (to_none a.marks.now 0 a.p a.list.now a.beside.now c.requires.2) w.list_run-cell.ensures))
+    ] in
     let h = first_below a.set in
     let columns : ListedTo a.marks.now (first_pair a.set) 1 a.p 9 a.list.now c.list_run-column.new.list c.list_run-column.new.beside c.list_run-column.result = to_run h cells c.list_run-column.ensures in
     ((omega arith, omega arith, omega arith, inl (omega arith)), c.requires.0, columns.few, columns.front.long ∙ c.requires.1, c.requires.3)
@@ -45,12 +45,12 @@ pub list_run-upper-requires : goal.list_run-upper-requires
 list_run-upper-requires c =
     let a = c.args in
     let cells : ListedTo a.marks.now (first_pair a.set) 1 a.p 0 a.list.now c.match-set.list c.match-set.beside c.match-set.cell =
-        elim c.match-set.branch [
-          | in-Minimal w ↦ to_named (ap first_pair w.in-Minimal.is) w.list-is w.beside-is w.cell-is (to_none a.marks.now 1 a.p a.list.now a.beside.now c.requires.2)
-          | in-Extended w ↦
-              to_named (ap first_pair w.in-Extended.is) w.list-is w.beside-is w.cell-is
-              (to_kind (omega arith) (to_run (omega arith) (to_none a.marks.now 0 a.p a.list.now a.beside.now c.requires.2) w.list_run-cell.ensures))
-        ] in
+    elim c.match-set.branch [
+      | in-Minimal w ↦ to_named (ap first_pair w.in-Minimal.is) w.list-is w.beside-is w.cell-is (to_none a.marks.now 1 a.p a.list.now a.beside.now c.requires.2)
+      | in-Extended w ↦
+          to_named (ap first_pair w.in-Extended.is) w.list-is w.beside-is w.cell-is
+          (to_kind (omega arith) (to_run (omega arith) (to_none a.marks.now 0 a.p a.list.now a.beside.now c.requires.2) w.list_run-cell.ensures))
+    ] in
     let h = first_below a.set in
     let columns : ListedTo a.marks.now (first_pair a.set) 1 a.p 9 a.list.now c.list_run-column.new.list c.list_run-column.new.beside c.list_run-column.result = to_run h cells c.list_run-column.ensures in
     let rows : ListedTo a.marks.now (first_pair a.set) 2 a.p 9 a.list.now c.list_run-row.new.list c.list_run-row.new.beside c.list_run-row.result = to_run (omega (arith, h)) (to_kind h columns) c.list_run-row.ensures in
@@ -60,12 +60,12 @@ pub list_run-middle-requires : goal.list_run-middle-requires
 list_run-middle-requires c =
     let a = c.args in
     let cells : ListedTo a.marks.now (first_pair a.set) 1 a.p 0 a.list.now c.match-set.list c.match-set.beside c.match-set.cell =
-        elim c.match-set.branch [
-          | in-Minimal w ↦ to_named (ap first_pair w.in-Minimal.is) w.list-is w.beside-is w.cell-is (to_none a.marks.now 1 a.p a.list.now a.beside.now c.requires.2)
-          | in-Extended w ↦
-              to_named (ap first_pair w.in-Extended.is) w.list-is w.beside-is w.cell-is
-              (to_kind (omega arith) (to_run (omega arith) (to_none a.marks.now 0 a.p a.list.now a.beside.now c.requires.2) w.list_run-cell.ensures))
-        ] in
+    elim c.match-set.branch [
+      | in-Minimal w ↦ to_named (ap first_pair w.in-Minimal.is) w.list-is w.beside-is w.cell-is (to_none a.marks.now 1 a.p a.list.now a.beside.now c.requires.2)
+      | in-Extended w ↦
+          to_named (ap first_pair w.in-Extended.is) w.list-is w.beside-is w.cell-is
+          (to_kind (omega arith) (to_run (omega arith) (to_none a.marks.now 0 a.p a.list.now a.beside.now c.requires.2) w.list_run-cell.ensures))
+    ] in
     let h = first_below a.set in
     let columns : ListedTo a.marks.now (first_pair a.set) 1 a.p 9 a.list.now c.list_run-column.new.list c.list_run-column.new.beside c.list_run-column.result = to_run h cells c.list_run-column.ensures in
     let rows : ListedTo a.marks.now (first_pair a.set) 2 a.p 9 a.list.now c.list_run-row.new.list c.list_run-row.new.beside c.list_run-row.result = to_run (omega (arith, h)) (to_kind h columns) c.list_run-row.ensures in
@@ -76,12 +76,12 @@ pub list_run-requires : goal.list_run-requires
 list_run-requires c =
     let a = c.args in
     let cells : ListedTo a.marks.now (first_pair a.set) 1 a.p 0 a.list.now c.match-set.list c.match-set.beside c.match-set.cell =
-        elim c.match-set.branch [
-          | in-Minimal w ↦ to_named (ap first_pair w.in-Minimal.is) w.list-is w.beside-is w.cell-is (to_none a.marks.now 1 a.p a.list.now a.beside.now c.requires.2)
-          | in-Extended w ↦
-              to_named (ap first_pair w.in-Extended.is) w.list-is w.beside-is w.cell-is
-              (to_kind (omega arith) (to_run (omega arith) (to_none a.marks.now 0 a.p a.list.now a.beside.now c.requires.2) w.list_run-cell.ensures))
-        ] in
+    elim c.match-set.branch [
+      | in-Minimal w ↦ to_named (ap first_pair w.in-Minimal.is) w.list-is w.beside-is w.cell-is (to_none a.marks.now 1 a.p a.list.now a.beside.now c.requires.2)
+      | in-Extended w ↦
+          to_named (ap first_pair w.in-Extended.is) w.list-is w.beside-is w.cell-is
+          (to_kind (omega arith) (to_run (omega arith) (to_none a.marks.now 0 a.p a.list.now a.beside.now c.requires.2) w.list_run-cell.ensures))
+    ] in
     let h = first_below a.set in
     let columns : ListedTo a.marks.now (first_pair a.set) 1 a.p 9 a.list.now c.list_run-column.new.list c.list_run-column.new.beside c.list_run-column.result = to_run h cells c.list_run-column.ensures in
     let rows : ListedTo a.marks.now (first_pair a.set) 2 a.p 9 a.list.now c.list_run-row.new.list c.list_run-row.new.beside c.list_run-row.result = to_run (omega (arith, h)) (to_kind h columns) c.list_run-row.ensures in
@@ -93,12 +93,12 @@ pub returns : goal.returns
 returns c =
     let a = c.args in
     let cells : ListedTo a.marks.now (first_pair a.set) 1 a.p 0 a.list.now c.match-set.list c.match-set.beside c.match-set.cell =
-        elim c.match-set.branch [
-          | in-Minimal w ↦ to_named (ap first_pair w.in-Minimal.is) w.list-is w.beside-is w.cell-is (to_none a.marks.now 1 a.p a.list.now a.beside.now c.requires.2)
-          | in-Extended w ↦
-              to_named (ap first_pair w.in-Extended.is) w.list-is w.beside-is w.cell-is
-              (to_kind (omega arith) (to_run (omega arith) (to_none a.marks.now 0 a.p a.list.now a.beside.now c.requires.2) w.list_run-cell.ensures))
-        ] in
+    elim c.match-set.branch [
+      | in-Minimal w ↦ to_named (ap first_pair w.in-Minimal.is) w.list-is w.beside-is w.cell-is (to_none a.marks.now 1 a.p a.list.now a.beside.now c.requires.2)
+      | in-Extended w ↦
+          to_named (ap first_pair w.in-Extended.is) w.list-is w.beside-is w.cell-is
+          (to_kind (omega arith) (to_run (omega arith) (to_none a.marks.now 0 a.p a.list.now a.beside.now c.requires.2) w.list_run-cell.ensures))
+    ] in
     let h = first_below a.set in
     let columns : ListedTo a.marks.now (first_pair a.set) 1 a.p 9 a.list.now c.list_run-column.new.list c.list_run-column.new.beside c.list_run-column.result = to_run h cells c.list_run-column.ensures in
     let rows : ListedTo a.marks.now (first_pair a.set) 2 a.p 9 a.list.now c.list_run-row.new.list c.list_run-row.new.beside c.list_run-row.result = to_run (omega (arith, h)) (to_kind h columns) c.list_run-row.ensures in

@@ -44,7 +44,7 @@ loop-k-preserved c =
     let l = c.loop-k in
     let a = c.args in
     let o : ((get_or a.marks.now c.place_in-q.result 0 ≡ 0) × (c.if-marks-q-eq0.n ≡ l.n + 1)) ⊎ ((get_or a.marks.now c.place_in-q.result 0 ≡ 0 → ⊥) × (c.if-marks-q-eq0.n ≡ l.n)) =
-        elim c.if-marks-q-eq0.branch [ then-marks-q-eq0 w ↦ inl (w.if-marks-q-eq0.true, w.n-is) | else-marks-q-eq0 w ↦ inr (w.if-marks-q-eq0.false, w.n-is) ] in (
+    elim c.if-marks-q-eq0.branch [ then-marks-q-eq0 w ↦ inl (w.if-marks-q-eq0.true, w.n-is) | else-marks-q-eq0 w ↦ inr (w.if-marks-q-eq0.false, w.n-is) ] in (
       omega (arith, l.invariant.0),
       omega (arith, c.loop-k-test.true),
       ⊎_elim (λ x. omega (arith, l.invariant.2, x.1)) (λ x. omega (arith, l.invariant.2, x.1)) o,
