@@ -19,7 +19,7 @@ use Rattle.grid.proofs.Counting.{tally_find}
 use Rattle.grid.proofs.Completion.{digit_iff}
 use Rattle.grid.proofs.House.{row_cell}
 use Rattle.clauses.specs.Clauses.{clauses_of}
-use Rattle.clauses.specs.Models.{holds, givens, Model, truth_of}
+use Rattle.clauses.specs.Models.{givens, Model, truth_of}
 use Rattle.clauses.specs.Shape.{place_of, IsShape, InSet, clause_of}
 use Rattle.clauses.specs.declared.ClauseSet.{ClauseSet}
 use Rattle.clauses.specs.declared.ClauseSet.TheVariants.{Minimal, Extended}

@@ -1,8 +1,7 @@
 -- A number below 512 is a place of the list.
-use mathlib.Core.Path.{◌≡◌, refl}
+use mathlib.Core.Path.{◌≡◌}
 use Prim.Native.Nat.{◌-◌}
-use borrow.Author.Rules.{rules}
-use lib.ListN.{length, length-set}
+use lib.ListN.{length}
 use Rattle.crowding.proofs.bit_counts.Given as goal
 
 abbrev pub invariant-loop-n : goal.invariant-loop-n

@@ -1,8 +1,7 @@
 -- A bit below the ninth is a place of the list.
-use mathlib.Core.Path.{◌≡◌, refl}
+use mathlib.Core.Path.{◌≡◌}
 use Prim.Native.Nat.{◌-◌}
-use borrow.Author.Rules.{rules}
-use lib.ListN.{length, length-set}
+use lib.ListN.{length}
 use Rattle.crowding.proofs.bits_of.Given as goal
 
 abbrev pub invariant-loop-k : goal.invariant-loop-k

@@ -1,11 +1,8 @@
 -- After k of the nine those of them are counted that are chosen.
-use mathlib.Core.Path.{◌≡◌, refl}
-use mathlib.Core.Logic.{⊎_elim}
-use Prim.Native.Nat.{◌-◌, ◌≤◌}
+use mathlib.Core.Path.{refl}
 use native.Mathlib.Omega.{arith}
-use borrow.Author.Rules.{rules}
 use borrow.Author.Tests.{eq-eqb, ne_eqb}
-use Rattle.grid.specs.Counting.{total, tally}
+use Rattle.grid.specs.Counting.{total}
 use Rattle.grid.proofs.Counting.{tally_more, tally_bound}
 use Rattle.crowding.specs.Crowding.{chosen}
 use Rattle.crowding.proofs.count.Goals as goal
@@ -20,9 +17,6 @@ loop-k-preserved c =
         | else-list-k-eq1 w ↦ rw (ne_eqb _ 1 w.if-list-k-eq1.false) (omega (arith, w.n-is, v.1))
       ]),
     )
-
-pub returns : goal.returns
-returns c = let e : c.loop-k.k ≡ 9 = omega (arith, c.loop-k.invariant.0) in rw e at c.loop-k.invariant.1
 
 pub loop-k-init : goal.loop-k-init
 loop-k-init c = (omega arith, unfold total in refl)

@@ -1,12 +1,7 @@
 -- After k of the nine those of them are counted that are chosen.
-use mathlib.Core.Path.{◌≡◌, refl}
-use mathlib.Core.Logic.{⊎_elim}
+use mathlib.Core.Path.{◌≡◌}
 use Prim.Native.Nat.{◌-◌, ◌≤◌}
-use native.Mathlib.Omega.{arith}
-use borrow.Author.Rules.{rules}
-use borrow.Author.Tests.{eq-eqb, ne_eqb}
-use Rattle.grid.specs.Counting.{total, tally}
-use Rattle.grid.proofs.Counting.{tally_more, tally_bound}
+use Rattle.grid.specs.Counting.{tally}
 use Rattle.crowding.specs.Crowding.{chosen}
 use Rattle.crowding.proofs.count.Given as goal
 

@@ -1,6 +1,5 @@
 -- What is found is below 512.
 use Prim.Native.Nat.{◌-◌}
-use borrow.Author.Rules.{rules}
 use Rattle.crowding.proofs.crowd.Given as goal
 
 abbrev pub invariant-loop-n : goal.invariant-loop-n

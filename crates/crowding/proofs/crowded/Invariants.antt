@@ -1,7 +1,5 @@
 -- One crowded house is enough.
 use Prim.Native.Nat.{◌-◌}
-use borrow.Author.Rules.{rules}
-use Rattle.completions.proofs.Left.{not_refuted}
 use Rattle.crowding.proofs.crowded.Given as goal
 
 abbrev pub invariant-loop-house : goal.invariant-loop-house

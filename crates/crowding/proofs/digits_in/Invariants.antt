@@ -1,6 +1,5 @@
 -- Nine places are below 729.
 use Prim.Native.Nat.{◌-◌}
-use borrow.Author.Rules.{rules}
 use Rattle.crowding.proofs.digits_in.Given as goal
 
 abbrev pub invariant-loop-k : goal.invariant-loop-k

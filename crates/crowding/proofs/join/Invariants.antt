@@ -1,6 +1,5 @@
 -- Twice at most 256 numbers are places of the list.
 use Prim.Native.Nat.{◌-◌}
-use borrow.Author.Rules.{rules}
 use Rattle.crowding.proofs.join.Given as goal
 
 abbrev pub invariant-loop-t : goal.invariant-loop-t

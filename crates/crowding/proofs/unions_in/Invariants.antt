@@ -1,7 +1,5 @@
 -- A cell more doubles the choices, as far as 512.
 use Prim.Native.Nat.{◌-◌}
-use native.Mathlib.Omega.{arith}
-use borrow.Author.Rules.{rules}
 use Rattle.crowding.proofs.unions_in.Given as goal
 
 abbrev pub invariant-loop-i : goal.invariant-loop-i
