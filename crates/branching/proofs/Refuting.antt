@@ -1,9 +1,8 @@
 -- What refutes marks. Where no full grid that fits the marks has a place true, the place may become false, and nothing is lost; where that
 -- is so of all nine places of a group, the marks leave nothing, since a full grid makes one of them true.
 -- Assumes nothing.
-use mathlib.Core.Path.{◌≡◌, refl, subst, ◌∙◌}
+use mathlib.Core.Path.{◌≡◌, refl, subst}
 use mathlib.Core.Logic.{inl, inr}
-use mathlib.Core.Bool.{true, false, not}
 use mathlib.Core.List.Memᴰ
 use mathlib.Core.List.{List, [], Memᴰ}
 use Prim.Native.Nat.{ℕ, suc, ◌<◌}
@@ -78,10 +77,6 @@ module _ (m : List ℕ) (i : IsMarks m) where
       let w = tally_find (true_in (truth_of b) g) 9 ((one_of_iff (truth_of b) g).0 s) in
       r w.0 w.1 b f w.2
 
--- Trials may leave marks as they are, and what they may do once they may do again.
+-- Trials may leave marks as they are.
 pub weighs_none : {m a : List ℕ} {d : ℕ} → StateOk Extended m a d → Weighs m m a d
 weighs_none s = record { state = s; more = omega arith; same = refl }
-
-pub weighed_again : {m t a : List ℕ} {d : ℕ} (u b : List ℕ) (r : Reached) → Weighs m t a d → WeighedOk t u b r → WeighedOk m u b r
-weighed_again u b Clash v e = v.same ∙ e
-weighed_again u b (Decided d) v w = record { state = w.state; more = omega (arith, v.more, w.more); same = v.same ∙ w.same }
