@@ -1,8 +1,5 @@
 -- The number is that of a group that has been looked at, or of none.
-use mathlib.Core.Logic.{⊎_elim}
 use Prim.Native.Nat.{◌-◌, ◌≤◌}
-use native.Mathlib.Omega.{arith}
-use borrow.Author.Rules.{rules}
 use Rattle.branching.proofs.lightest.Given as goal
 
 abbrev pub invariant-loop-i : goal.invariant-loop-i

@@ -1,8 +1,5 @@
 -- Nine weights of 32 bits have a sum of 64.
-use mathlib.Core.Logic.{⊎_elim}
 use Prim.Native.Nat.{◌*◌, ◌-◌, ◌≤◌}
-use native.Mathlib.Omega.{arith}
-use borrow.Author.Rules.{rules}
 use Rattle.branching.proofs.load.Given as goal
 
 abbrev pub invariant-loop-j : goal.invariant-loop-j

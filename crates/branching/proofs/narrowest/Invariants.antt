@@ -1,8 +1,5 @@
 -- The number is that of a cell that has been looked at, or of none.
-use mathlib.Core.Logic.{⊎_elim}
 use Prim.Native.Nat.{◌-◌, ◌≤◌}
-use native.Mathlib.Omega.{arith}
-use borrow.Author.Rules.{rules}
 use Rattle.branching.proofs.narrowest.Given as goal
 
 abbrev pub invariant-loop-cell : goal.invariant-loop-cell

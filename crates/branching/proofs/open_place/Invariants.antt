@@ -1,6 +1,5 @@
 -- Every place of a group is below 729.
 use Prim.Native.Nat.{◌-◌, ◌≤◌}
-use borrow.Author.Rules.{rules}
 use Rattle.branching.proofs.open_place.Given as goal
 
 abbrev pub invariant-loop-k : goal.invariant-loop-k
