@@ -1,11 +1,13 @@
 -- What refutes marks. Where no full grid that fits the marks has a place true, the place may become false, and nothing is lost; where that
 -- is so of all nine places of a group, the marks leave nothing, since a full grid makes one of them true.
 -- Assumes nothing.
-use mathlib.Core.Path.{◌≡◌, refl, subst}
+use mathlib.Core.Path.{◌≡◌, refl, subst, ◌∙◌}
 use mathlib.Core.Logic.{inl, inr}
+use mathlib.Core.Bool.{true, false, not}
 use mathlib.Core.List.Memᴰ
 use mathlib.Core.List.{List, [], Memᴰ}
 use Prim.Native.Nat.{ℕ, suc, ◌<◌}
+use native.Mathlib.Omega.{arith}
 use lib.Dec.{T, T_not, not_T}
 use lib.IntN.{pos, negsuc}
 use lib.ListN.{get_or}
@@ -23,13 +25,13 @@ use Rattle.closure.specs.Closure.{Contradiction, With, UnitClosed}
 use Rattle.closure.specs.Marks.{has, decided, IsMarks}
 use Rattle.closure.proofs.Marks.{decided_rises, decided_grows}
 use Rattle.worklist.proofs.Sums.{byte_true, false_byte}
-use Rattle.propagation.specs.Steps.{ClosesTo}
+use Rattle.propagation.specs.Steps.{StateOk, ClosesTo}
 use Rattle.propagation.specs.declared.close.Reached.{Reached}
 use Rattle.propagation.specs.declared.close.Reached.TheVariants.{Clash, Decided}
 use Rattle.completions.specs.Left.{left}
 use Rattle.completions.proofs.ByteOrder.{in_order_same}
 use Rattle.completions.proofs.Left.{Fits, Of, model, with_fits, clash_fits, closed_fits, left_in_order, unfit_left}
-use Rattle.branching.specs.Branching.{WeighedOk}
+use Rattle.branching.specs.Branching.{Weighs, WeighedOk}
 
 -- no grid that fits the marks has the place true
 abbrev pub Refuted : List ℕ → ℕ → Type 0
@@ -75,3 +77,11 @@ module _ (m : List ℕ) (i : IsMarks m) where
       let s = model (Of m) b f (clause_of (OneOf g)) ((member_iff Extended (clause_of (OneOf g))).1 (OneOf g, h, tt, refl)) in
       let w = tally_find (true_in (truth_of b) g) 9 ((one_of_iff (truth_of b) g).0 s) in
       r w.0 w.1 b f w.2
+
+-- Trials may leave marks as they are, and what they may do once they may do again.
+pub weighs_none : {m a : List ℕ} {d : ℕ} → StateOk Extended m a d → Weighs m m a d
+weighs_none s = record { state = s; more = omega arith; same = refl }
+
+pub weighed_again : {m t a : List ℕ} {d : ℕ} (u b : List ℕ) (r : Reached) → Weighs m t a d → WeighedOk t u b r → WeighedOk m u b r
+weighed_again u b Clash v e = v.same ∙ e
+weighed_again u b (Decided d) v w = record { state = w.state; more = omega (arith, v.more, w.more); same = v.same ∙ w.same }
