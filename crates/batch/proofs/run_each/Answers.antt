@@ -39,9 +39,3 @@ loop-i-preserved c =
 pub returns : goal.returns
 returns c =
     all_done c.loop-i.invariant.3 (grids_in (length c.args.grids.now)) (omega (arith, c.loop-i-test.false, c.loop-i.invariant.0)) c.requires.0.marks_long c.requires.0.numbers_long
-
-pub shape_of-marks : goal.shape_of-marks
-shape_of-marks c = c.loop-i.invariant.1 ∙ sym c.requires.0.marks_long
-
-pub shape_of-numbers : goal.shape_of-numbers
-shape_of-numbers c = c.loop-i.invariant.2 ∙ sym c.requires.0.numbers_long

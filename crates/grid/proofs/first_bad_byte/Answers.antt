@@ -10,9 +10,6 @@ use Rattle.grid.proofs.First.{Scanned, first_here, first_later, first_none}
 use Rattle.grid.proofs.first_bad_byte.Invariants.{bad}
 use Rattle.grid.proofs.first_bad_byte.Goals as goal
 
-pub loop-i-init : goal.loop-i-init
-loop-i-init c = (omega arith, omega arith)
-
 pub returns-then-not-has_meaning : goal.returns-then-not-has_meaning
 unfolding first_bad
 returns-then-not-has_meaning c = first_here bad c.args.bytes.now 0 c.loop-i.i c.loop-i.invariant (omega arith) (ap not (sym c.has_meaning.ensures ∙ c.if-not-has_meaning.true))

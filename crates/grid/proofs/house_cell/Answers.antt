@@ -33,10 +33,3 @@ holds h k i j =
 pub returns : goal.returns
 unfolding houses cell_of
 returns c = holds c.args.house c.args.k (search rules) (search rules)
-
-pub overflow_cast-result : goal.overflow_cast-result
-unfolding houses cell_of
-overflow_cast-result c =
-    let h = c.args.house in
-    let k = c.args.k in
-    record { fits = omega (arith, holds h k (search rules) (search rules), cell_below h k (search rules) (search rules)) }

@@ -26,6 +26,3 @@ returns-in-Box c =
     let e : c.third.result ≡ p / 243 = c.third.ensures ∙ box_row p in
     let f : c.third-in-Box.result ≡ p / 27 % 3 = c.third-in-Box.ensures ∙ box_column p in
     ap (λ x. 243 + (9 * (p % 9) + (3 * x + c.third-in-Box.result))) e ∙ ap (λ x. 243 + (9 * (p % 9) + (3 * (p / 243) + x))) f ∙ ap (λ f. slot_at f p) (sym c.in-Box.is)
-
-pub third-requires : goal.third-requires
-third-requires c = omega (arith, c.requires)

@@ -20,9 +20,6 @@ entries_long : (f : List ℕ) (at : ℕ) → length (entries_at f at) ≡ 1458
 unfolding entries_at
 entries_long f at = refl
 
-pub loop-k-init : goal.loop-k-init
-loop-k-init c = (omega arith, refl, refl)
-
 pub loop-k-preserved : goal.loop-k-preserved
 loop-k-preserved c =
     let w = c.loop-k in

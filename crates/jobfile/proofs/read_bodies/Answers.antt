@@ -36,9 +36,6 @@ tested : (f : List ℕ) (b : Bodies) (g : List ℕ) (o e : List ℤ) (w : Checke
 unfolding read_bodies
 tested f b g o e w p q = rw (q, p, cells f b) refl
 
-pub overflow_add-cells : goal.overflow_add-cells
-overflow_add-cells c = omega (arith, grid_lies _ _ c.requires.0)
-
 pub slice_bounds-cells-end : goal.slice_bounds-cells-end
 slice_bounds-cells-end c = omega (arith, grid_lies _ _ c.requires.0)
 

@@ -8,12 +8,6 @@ use Rattle.clauses.specs.Shape.{IsShape, clause_of}
 use borrow.Author.Rules.{rules}
 use Rattle.clauses.proofs.decode.fill.Goals as goal
 
-pub fill_group-requires : goal.fill_group-requires
-fill_group-requires c = (subst IsShape c.in-OneOf.is c.requires.0, c.requires.1)
-
-pub place-requires : goal.place-requires
-place-requires c = let g = subst IsShape c.in-NotBoth.is c.requires.0 in (g.0, omega (arith, g.1, g.2))
-
 pub place-requires-in-NotBoth : goal.place-requires-in-NotBoth
 place-requires-in-NotBoth c = let g = subst IsShape c.in-NotBoth.is c.requires.0 in (g.0, g.2)
 

@@ -9,27 +9,12 @@ use Rattle.clauses.proofs.Signed.{returned}
 use Rattle.clauses.proofs.Filling.{Filled, filled_none, filled_more, filled_all, group_at_lem, group_short}
 use Rattle.clauses.proofs.decode.fill_group.Goals as goal
 
-pub loop-k-init : goal.loop-k-init
-loop-k-init c = filled_none (clause_of (OneOf c.args.group)) c.args.out.now c.requires.1
-
-pub place-requires : goal.place-requires
-place-requires c = (c.requires.0, c.loop-k-test.true)
-
-pub positive-requires : goal.positive-requires
-positive-requires c = c.place.ensures.1
-
-pub bounds-out-k : goal.bounds-out-k
-bounds-out-k c = omega (arith, c.loop-k.invariant.long)
-
 pub loop-k-preserved : goal.loop-k-preserved
 loop-k-preserved c =
     let g = c.args.group in
     let h = c.loop-k-test.true in
     filled_more (clause_of (OneOf g)) c.loop-k.out c.loop-k.k _ c.loop-k.invariant h
     (returned _ c.positive.type_inv ∙ c.positive.ensures ∙ ap (λ x. pos (suc x)) c.place.ensures.0 ∙ sym (group_at_lem g c.loop-k.k h))
-
-pub shape_of-out : goal.shape_of-out
-shape_of-out c = c.loop-k.invariant.long ∙ sym c.requires.1
 
 pub returns : goal.returns
 returns c = let g = c.args.group in filled_all (clause_of (OneOf g)) c.loop-k.out c.loop-k.k (group_short g) c.loop-k-test.false c.loop-k.invariant

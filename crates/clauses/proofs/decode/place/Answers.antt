@@ -7,15 +7,6 @@ use Rattle.clauses.specs.Shape.{place_of, IsGroup}
 use borrow.Author.Rules.{rules}
 use Rattle.clauses.proofs.decode.place.Goals as goal
 
-pub overflow_mul-result : goal.overflow_mul-result
-overflow_mul-result c = omega (arith, subst IsGroup c.in-Cell.is c.requires.0)
-
-pub overflow_add-result : goal.overflow_add-result
-overflow_add-result c = omega (arith, subst IsGroup c.in-Cell.is c.requires.0, c.requires.1)
-
-pub cell-requires : goal.cell-requires
-cell-requires c = ((subst IsGroup c.in-House.is c.requires.0).0, c.requires.1)
-
 pub overflow_mul-result-in-House : goal.overflow_mul-result-in-House
 overflow_mul-result-in-House c =
     let small : (c.cell.result < 81) × (c.in-House.d < 9) = let g = subst IsGroup c.in-House.is c.requires.0 in

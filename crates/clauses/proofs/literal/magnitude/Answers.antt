@@ -11,35 +11,6 @@ use Rattle.clauses.proofs.Signed.{read, test_of, less_one, not_below}
 use borrow.Author.Rules.{rules}
 use Rattle.clauses.proofs.literal.magnitude.Goals as goal
 
-pub overflow_sub-result : goal.overflow_sub-result
-overflow_sub-result c =
-    let rest : lt_z (to_z w16 (of_z w16 c.args.l)) (pos 0) ≡ true → (negsuc 0 -ℤ c.args.l ≡ pos (mag c.args.l)) × (nat_abs c.args.l ≡ mag c.args.l + 1) = λ t. less_one c.args.l (test_of (λ z. lt_z z (pos 0)) true c.args.l c.ranges.l t) in
-    let fits : SFits w16 (pos (mag c.args.l)) = record { sfits = c.ranges.l.sfits } in
-    let difference : lt_z (to_z w16 (of_z w16 c.args.l)) (pos 0) ≡ true → negsuc 0 -ℤ to_z w16 (of_z w16 c.args.l) ≡ pos (mag c.args.l) = λ t. ap (λ z. negsuc 0 -ℤ z) (read c.args.l c.ranges.l) ∙ (rest t).0 in
-    rw (difference c.if-l-lt0.true) fits
-
-pub overflow_cast-result : goal.overflow_cast-result
-overflow_cast-result c =
-    let rest : lt_z (to_z w16 (of_z w16 c.args.l)) (pos 0) ≡ true → (negsuc 0 -ℤ c.args.l ≡ pos (mag c.args.l)) × (nat_abs c.args.l ≡ mag c.args.l + 1) = λ t. less_one c.args.l (test_of (λ z. lt_z z (pos 0)) true c.args.l c.ranges.l t) in
-    let fits : SFits w16 (pos (mag c.args.l)) = record { sfits = c.ranges.l.sfits } in
-    let difference : lt_z (to_z w16 (of_z w16 c.args.l)) (pos 0) ≡ true → negsuc 0 -ℤ to_z w16 (of_z w16 c.args.l) ≡ pos (mag c.args.l) = λ t. ap (λ z. negsuc 0 -ℤ z) (read c.args.l c.ranges.l) ∙ (rest t).0 in
-    let made : lt_z (to_z w16 (of_z w16 c.args.l)) (pos 0) ≡ true → to_z w16 (of_z w16 (negsuc 0 -ℤ to_z w16 (of_z w16 c.args.l))) ≡ pos (mag c.args.l) = λ t. ap (λ z. to_z w16 (of_z w16 z)) (difference t) ∙ read (pos (mag c.args.l)) fits in
-    rw (made c.if-l-lt0.true) (tt, omega (arith, c.ranges.l.sfits))
-
-pub overflow_add-result : goal.overflow_add-result
-overflow_add-result c =
-    let rest : lt_z (to_z w16 (of_z w16 c.args.l)) (pos 0) ≡ true → (negsuc 0 -ℤ c.args.l ≡ pos (mag c.args.l)) × (nat_abs c.args.l ≡ mag c.args.l + 1) = λ t. less_one c.args.l (test_of (λ z. lt_z z (pos 0)) true c.args.l c.ranges.l t) in
-    let fits : SFits w16 (pos (mag c.args.l)) = record { sfits = c.ranges.l.sfits } in
-    let difference : lt_z (to_z w16 (of_z w16 c.args.l)) (pos 0) ≡ true → negsuc 0 -ℤ to_z w16 (of_z w16 c.args.l) ≡ pos (mag c.args.l) = λ t. ap (λ z. negsuc 0 -ℤ z) (read c.args.l c.ranges.l) ∙ (rest t).0 in
-    let made : lt_z (to_z w16 (of_z w16 c.args.l)) (pos 0) ≡ true → to_z w16 (of_z w16 (negsuc 0 -ℤ to_z w16 (of_z w16 c.args.l))) ≡ pos (mag c.args.l) = λ t. ap (λ z. to_z w16 (of_z w16 z)) (difference t) ∙ read (pos (mag c.args.l)) fits in
-    rw (made c.if-l-lt0.true) (omega (arith, c.ranges.l.sfits))
-
-pub overflow_cast-result-else-l-lt0 : goal.overflow_cast-result-else-l-lt0
-overflow_cast-result-else-l-lt0 c =
-    let l = c.args.l in
-    let n = not_below l (test_of (λ z. lt_z z (pos 0)) false l c.ranges.l c.if-l-lt0.false) in
-    rw (read l c.ranges.l) (n.0, omega (arith, n.1, c.ranges.l.sfits))
-
 pub returns-then-l-lt0 : goal.returns-then-l-lt0
 returns-then-l-lt0 c =
     let rest : lt_z (to_z w16 (of_z w16 c.args.l)) (pos 0) ≡ true → (negsuc 0 -ℤ c.args.l ≡ pos (mag c.args.l)) × (nat_abs c.args.l ≡ mag c.args.l + 1) = λ t. less_one c.args.l (test_of (λ z. lt_z z (pos 0)) true c.args.l c.ranges.l t) in

@@ -4,8 +4,5 @@ use Rattle.clauses.proofs.Signed.{read, negative_is, negative_fits}
 use borrow.Author.Rules.{rules}
 use Rattle.clauses.proofs.literal.negative.Goals as goal
 
-pub overflow_sub-result : goal.overflow_sub-result
-overflow_sub-result c = let k = c.args.place in rw (negative_is k c.requires) (negative_fits k c.requires)
-
 pub returns : goal.returns
 returns c = let k = c.args.place in rw (negative_is k c.requires) (read (negsuc k) (negative_fits k c.requires))

@@ -23,9 +23,3 @@ pub returns : goal.returns
 returns c =
     let w = c.loop-i in
     ext_get_or 0 w.to c.args.from.now w.invariant.1 (λ j h. w.invariant.2 j (omega (arith, w.invariant.1)))
-
-pub loop-i-init : goal.loop-i-init
-loop-i-init c = (omega arith, c.requires, λ j h. absurd (omega arith))
-
-pub shape_of-to : goal.shape_of-to
-shape_of-to c = c.loop-i.invariant.1 ∙ sym c.requires

@@ -73,14 +73,6 @@ overflow_sub-d c =
     let read : (cell < length c.args.candidate.now) × (49 ≤ x) × (x ≤ 57) = full_digit c.args.candidate.now c.requires.0 cell below in
     read.1
 
-pub overflow_cast-d : goal.overflow_cast-d
-overflow_cast-d c =
-    let cell : ℕ = c.house_cell-cell.result in
-    let x : ℕ = byte c.args.candidate.now cell in
-    let below : cell < 81 = omega (arith, c.house_cell-cell.ensures, cell_below c.args.house c.loop-k.k (omega arith) (omega arith)) in
-    let read : (cell < length c.args.candidate.now) × (49 ≤ x) × (x ≤ 57) = full_digit c.args.candidate.now c.requires.0 cell below in
-    omega (arith, read)
-
 pub bounds-counts-d : goal.bounds-counts-d
 bounds-counts-d c =
     let cell : ℕ = c.house_cell-cell.result in

@@ -34,11 +34,6 @@ returns-then-not-keeps_givens c =
       sym c.keeps_givens.ensures ∙ c.if-not-keeps_givens.true,
     )
 
-pub each_once-requires : goal.each_once-requires
-each_once-requires c =
-    let full-passed : is_full c.args.candidate.now ≡ true = sym c.is_full.ensures ∙ c.if-not-is_full.false in
-    full-passed
-
 pub returns : goal.returns
 unfolding is_completion is_legal
 returns c =

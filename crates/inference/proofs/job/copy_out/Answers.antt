@@ -24,18 +24,3 @@ pub returns : goal.returns
 returns c =
     let w = c.loop-i in
     ext_get_or 0 w.marks c.args.from (w.invariant.1 ∙ sym c.well_formed.0.1.0.1) (λ j h. w.invariant.2 j (omega (arith, h, w.invariant.1, c.loop-i-test.false)))
-
-pub loop-i-init : goal.loop-i-init
-loop-i-init c = (omega arith, c.requires, λ j h. absurd (omega arith))
-
-pub bounds-marks-i : goal.bounds-marks-i
-bounds-marks-i c = omega (arith, c.loop-i-test.true, c.loop-i.invariant.1)
-
-pub overflow_add-i : goal.overflow_add-i
-overflow_add-i c = omega (arith, c.loop-i-test.true)
-
-pub loop-i-smaller : goal.loop-i-smaller
-loop-i-smaller c = omega (arith, c.loop-i-test.true)
-
-pub shape_of-marks : goal.shape_of-marks
-shape_of-marks c = c.loop-i.invariant.1 ∙ sym c.requires

@@ -24,9 +24,6 @@ begun_more n o l f h e = record { long = length-set o n l ∙ f.long; same = λ 
         rw q (get_or-set_same o n l (pos 0) (omega (arith, f.long, place_below l h)) ∙ sym (default_at l h) ∙ ap (entry default_order) e)
     go j b (no q) = get_or-set_other o n j l (pos 0) q ∙ f.same j (omega arith)
 
-pub loop-k-init : goal.loop-k-init
-loop-k-init c = (omega arith, record { long = refl; same = λ j b. absurd (omega arith) })
-
 pub loop-k-preserved : goal.loop-k-preserved
 loop-k-preserved c =
     let k = c.loop-k.k in

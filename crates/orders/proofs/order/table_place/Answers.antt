@@ -29,15 +29,6 @@ module _ (l : ℤ) (fits : SFits w16 l) (h : Literal l) (mark : ℕ) (is : mark 
   place_is : (b : Bool) → lt_z (to_z w16 (of_z w16 l)) (pos 0) ≡ b → 2 * mark + tick b ≡ table_place l
   place_is b e = omega (arith, is_mark, by_mark l, ap tick (test_of (λ z. lt_z z (pos 0)) b l fits e))
 
-pub overflow_mul-result : goal.overflow_mul-result
-overflow_mul-result c = omega (arith, mark_small c.args.l c.ranges.l c.requires _ c.mark_index-mark.ensures)
-
-pub overflow_add-result : goal.overflow_add-result
-overflow_add-result c = omega (arith, mark_small c.args.l c.ranges.l c.requires _ c.mark_index-mark.ensures)
-
-pub overflow_mul-result-else-l-lt0 : goal.overflow_mul-result-else-l-lt0
-overflow_mul-result-else-l-lt0 c = omega (arith, mark_small c.args.l c.ranges.l c.requires _ c.mark_index-mark.ensures)
-
 pub returns-then-l-lt0 : goal.returns-then-l-lt0
 returns-then-l-lt0 c = place_is c.args.l c.ranges.l c.requires _ c.mark_index-mark.ensures true c.if-l-lt0.true
 

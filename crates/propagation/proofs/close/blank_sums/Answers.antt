@@ -22,9 +22,6 @@ fill q n a x h b e r =
       ];
     }
 
-pub loop-q-init : goal.loop-q-init
-loop-q-init c = (omega arith, record { long = refl; sums = λ i p h b. absurd (omega arith) })
-
 pub loop-q-preserved : goal.loop-q-preserved
 loop-q-preserved c =
     let w = c.loop-q in

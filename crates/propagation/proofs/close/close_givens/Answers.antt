@@ -40,12 +40,6 @@ loop-i-init c =
 pub overflow_sub-byte : goal.overflow_sub-byte
 overflow_sub-byte c = (place_below c.args.grid.now c.loop-i.i c.is_digit.ensures c.if-is_digit.true c.loop-i-test.true).0
 
-pub overflow_cast-byte : goal.overflow_cast-byte
-overflow_cast-byte c = omega (arith, (place_below c.args.grid.now c.loop-i.i c.is_digit.ensures c.if-is_digit.true c.loop-i-test.true).1)
-
-pub overflow_add-i : goal.overflow_add-i
-overflow_add-i c = omega (arith, (place_below c.args.grid.now c.loop-i.i c.is_digit.ensures c.if-is_digit.true c.loop-i-test.true).1)
-
 pub close_true-closed-requires : goal.close_true-closed-requires
 close_true-closed-requires c = (c.loop-i.invariant.1, (place_below c.args.grid.now c.loop-i.i c.is_digit.ensures c.if-is_digit.true c.loop-i-test.true).1)
 
@@ -86,12 +80,3 @@ returns c =
       answer = closes_same (UnitClosed (clauses_of a.set)) (Before a.set a.grid.now c.loop-i.i) (λ k. Memᴰ k (givens a.grid.now)) (before_all a.set a.grid.now c.loop-i.i e) (closed c.loop-i.marks) c.loop-i.invariant.2;
       state = c.loop-i.invariant.1;
     }
-
-pub bounds-grid-i : goal.bounds-grid-i
-bounds-grid-i c = omega (arith, c.loop-i-test.true, c.requires.1)
-
-pub overflow_add-i-in-loop-i : goal.overflow_add-i-in-loop-i
-overflow_add-i-in-loop-i c = omega (arith, c.loop-i-test.true)
-
-pub loop-i-smaller : goal.loop-i-smaller
-loop-i-smaller c = omega (arith, c.loop-i-test.true)

@@ -8,14 +8,6 @@ use Rattle.worklist.specs.Acting.{Stepped, Struck, Undecided, Ready, At}
 use Rattle.propagation.proofs.Looking.{rest, slot, slot_small, is_clause, last_below, look_nothing, look_clash, place_left, look_place}
 use Rattle.propagation.proofs.close.look.Goals as goal
 
-pub bounds-sums-slot : goal.bounds-sums-slot
-bounds-sums-slot c =
-    let at : ℕ = let a = c.args in slot a.set a.marks.now a.sums.now a.list.now a.work c.requires.0 c.requires.2 in
-    let small : at < 324 = let a = c.args in slot_small a.set a.marks.now a.sums.now a.list.now a.work c.requires.0 c.requires.2 in
-    let is_slot : c.slot_of-slot.result ≡ at = let a = c.args in
-    c.slot_of-slot.ensures at small (is_clause a.set a.marks.now a.sums.now a.list.now a.work c.requires.0 c.requires.2) in
-    omega (arith, is_slot, small)
-
 pub returns-then-sum-ge2048 : goal.returns-then-sum-ge2048
 returns-then-sum-ge2048 c =
     let at : ℕ = let a = c.args in slot a.set a.marks.now a.sums.now a.list.now a.work c.requires.0 c.requires.2 in
@@ -96,11 +88,3 @@ pub bounds-list-last : goal.bounds-list-last
 bounds-list-last c =
     let below : c.args.work.listed - 1 < 2952 = let a = c.args in omega (arith, last_below a.set a.marks.now a.sums.now a.list.now a.work c.requires.0 c.requires.2) in
     below
-
-pub offset_bounds-sums-slot : goal.offset_bounds-sums-slot
-offset_bounds-sums-slot c =
-    let at : ℕ = let a = c.args in slot a.set a.marks.now a.sums.now a.list.now a.work c.requires.0 c.requires.2 in
-    let small : at < 324 = let a = c.args in slot_small a.set a.marks.now a.sums.now a.list.now a.work c.requires.0 c.requires.2 in
-    let is_slot : c.slot_of-slot.result ≡ at = let a = c.args in
-    c.slot_of-slot.ensures at small (is_clause a.set a.marks.now a.sums.now a.list.now a.work c.requires.0 c.requires.2) in
-    omega (arith, is_slot, small)

@@ -13,12 +13,6 @@ use Rattle.propagation.proofs.close.propagate.Goals as goal
 
 -- the loop that a look is in
 
-pub loop-w-init : goal.loop-w-init
-loop-w-init c = stepped_none c.args.set c.requires.0 c.requires.1
-
-pub look-looked-requires : goal.look-looked-requires
-look-looked-requires c = let v = c.loop-w.invariant in (v.ready, v.struck, c.loop-w-test.true)
-
 pub returns-in-Clash : goal.returns-in-Clash
 returns-in-Clash c =
     let a = c.args in

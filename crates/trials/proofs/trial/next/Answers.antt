@@ -157,36 +157,3 @@ returns-else-more-eq729 c =
       next_more marks m' c.args.count c.args.failed (λ x. c.if-more-eq729.false (w.0.count ∙ x)) ∙ tried (Refuted c.in-Refuted.more) c.in-Refuted.is,
       (omega (arith, below), record { state = w.0; known = possible_known c.args.set m' p; possible = p }),
     )
-
-pub bounds-known-at : goal.bounds-known-at
-bounds-known-at c =
-    let l : ℤ = c.args.literal in
-    let is-index : c.mark_index-at.result ≡ mark_index l = c.mark_index-at.ensures ∙ ap mark_index (read l c.ranges.literal) in
-    let is_place : c.mark_index-at.result ≡ place_at l = is-index ∙ index_place l c.requires.1 in
-    let small : c.mark_index-at.result < 729 = omega (arith, is_place, place_below l c.requires.1) in
-    small
-
-pub overflow_add-result : goal.overflow_add-result
-overflow_add-result c =
-    let below : c.args.count < c.args.ceiling = omega (arith, c.requires.2, c.if-count-ceiling.false) in
-    omega (arith, below, c.ranges.ceiling)
-
-pub overflow_add-result-in-Kept : goal.overflow_add-result-in-Kept
-overflow_add-result-in-Kept c =
-    let below : c.args.count < c.args.ceiling = omega (arith, c.requires.2, c.if-count-ceiling.false) in
-    omega (arith, below, c.ranges.ceiling)
-
-pub overflow_add-result-in-Broken : goal.overflow_add-result-in-Broken
-overflow_add-result-in-Broken c =
-    let below : c.args.count < c.args.ceiling = omega (arith, c.requires.2, c.if-count-ceiling.false) in
-    omega (arith, below, c.ranges.ceiling)
-
-pub overflow_add-result-then-more-eq729 : goal.overflow_add-result-then-more-eq729
-overflow_add-result-then-more-eq729 c =
-    let below : c.args.count < c.args.ceiling = omega (arith, c.requires.2, c.if-count-ceiling.false) in
-    omega (arith, below, c.ranges.ceiling)
-
-pub overflow_add-result-in-Refuted : goal.overflow_add-result-in-Refuted
-overflow_add-result-in-Refuted c =
-    let below : c.args.count < c.args.ceiling = omega (arith, c.requires.2, c.if-count-ceiling.false) in
-    omega (arith, below, c.ranges.ceiling)

@@ -22,9 +22,6 @@ loop-left-init c =
     let p = c.requires.1 in
     (record { state = c.requires.0; known = possible_known c.args.set c.args.state.marks p; possible = p }, omega arith, refl)
 
-pub walk-pass-requires : goal.walk-pass-requires
-walk-pass-requires c = (c.loop-left.invariant.0, c.requires.2, c.loop-left.invariant.1)
-
 pub returns-then-not-failed : goal.returns-then-not-failed
 returns-then-not-failed c =
     let went : (p : Pass) → c.walk-pass.result ≡ p
@@ -72,6 +69,3 @@ returns c =
           ∙ ap (λ x. passes (clauses_of a.set) a.ceiling x a.order.now c.loop-left.marks c.loop-left.n) (sym z) ∙ c.loop-left.invariant.2,
       c.loop-left.invariant.0.state.count,
     )
-
-pub loop-left-smaller : goal.loop-left-smaller
-loop-left-smaller c = omega (arith, c.loop-left-test.true)

@@ -18,16 +18,6 @@ use Rattle.trials.specs.declared.trial.Pass.{Pass}
 use Rattle.trials.proofs.Walking.{onward, rest, rest_next, rest_end}
 use Rattle.trials.proofs.trial.walk.Goals as goal
 
-pub loop-i-init : goal.loop-i-init
-loop-i-init c = (omega arith, c.requires.0, c.requires.2, refl)
-
-pub next-pass-requires : goal.next-pass-requires
-next-pass-requires c =
-    let o : List ℤ = c.args.order.now in
-    let i : ℕ = c.loop-i.i in
-    let is_read : to_z w16 (of_z w16 (get_or o i (pos 0))) ≡ get_or o i (pos 0) = read (get_or o i (pos 0)) (record { sfits = c.next-arg-in-loop-i-4-1.given }) in
-    (c.loop-i.invariant.1, subst Literal (sym is_read) (c.requires.1 c.loop-i.i c.loop-i-test.true), c.loop-i.invariant.2)
-
 pub returns-in-Ended : goal.returns-in-Ended
 returns-in-Ended c =
     let o : List ℤ = c.args.order.now in

@@ -53,14 +53,5 @@ returns c =
           (subst (λ n. Weighing n l.i a.p a.marks.now (set a.marks.now a.p a.mark) l.sums l.list l.n) c.nine_kinds-kinds.ensures l.invariant.1),
     )
 
-pub slot_at-requires : goal.slot_at-requires
-slot_at-requires c = c.requires.1.0
-
-pub clause_at-requires : goal.clause_at-requires
-clause_at-requires c = c.requires.1.0
-
-pub bounds-marks-p : goal.bounds-marks-p
-bounds-marks-p c = c.requires.1.0
-
 pub overflow_add-result : goal.overflow_add-result
 overflow_add-result c = omega (arith, c.requires.0.count, decided_bounded c.args.marks.now)

@@ -14,10 +14,6 @@ use Rattle.worklist.proofs.Listing.{front_same, front_more, front_set, opened_ne
 use Rattle.worklist.proofs.acting.list_run.Goals as goal
 use Rattle.worklist.proofs.acting.list_run.Goals.{then-marks-q-eq0, else-marks-q-eq0}
 
-pub loop-k-init : goal.loop-k-init
-loop-k-init c =
-    (omega arith, c.requires.0.1, c.requires.2, front_same c.args.list.now, λ a h r. r)
-
 pub place_in-q-requires : goal.place_in-q-requires
 place_in-q-requires c =
     let k : ℕ = c.loop-k.k in
@@ -70,15 +66,6 @@ returns c =
       more = λ b h r. subst (λ k. Opened a.marks.now (Pairs b a.i a.p k) l.list l.beside l.n) e (l.invariant.4 b h r);
     }
 
-pub line_of-line-requires : goal.line_of-line-requires
-line_of-line-requires c = c.requires.1
-
-pub row_at-row-requires : goal.row_at-row-requires
-row_at-row-requires c = c.requires.1
-
-pub first_number-first-requires : goal.first_number-first-requires
-first_number-first-requires c = c.requires.1
-
 pub overflow_add-at : goal.overflow_add-at
 overflow_add-at c =
     let k : ℕ = c.loop-k.k in
@@ -125,27 +112,6 @@ overflow_cast-list c =
     let fits : c.first_number-first.result + c.byte.result < 65536 = omega (arith, is_number, number_small p c.requires.1 (kind_at i) (k / 3) k nine) in
     omega (arith, fits)
 
-pub overflow_add-list : goal.overflow_add-list
-overflow_add-list c =
-    let k : ℕ = c.loop-k.k in
-    let nine : k < 9 = omega (arith, c.loop-k-test.true, c.requires.0.2) in
-    let room : c.loop-k.n < 36 = omega (arith, c.loop-k.invariant.2, nine, c.requires.0.0) in
-    omega (arith, room)
-
-pub offset_bounds-list-n : goal.offset_bounds-list-n
-offset_bounds-list-n c =
-    let k : ℕ = c.loop-k.k in
-    let nine : k < 9 = omega (arith, c.loop-k-test.true, c.requires.0.2) in
-    let room : c.loop-k.n < 36 = omega (arith, c.loop-k.invariant.2, nine, c.requires.0.0) in
-    omega (arith, room)
-
-pub bounds-list-n : goal.bounds-list-n
-bounds-list-n c =
-    let k : ℕ = c.loop-k.k in
-    let nine : k < 9 = omega (arith, c.loop-k-test.true, c.requires.0.2) in
-    let room : c.loop-k.n < 36 = omega (arith, c.loop-k.invariant.2, nine, c.requires.0.0) in
-    omega (arith, room)
-
 pub overflow_cast-beside : goal.overflow_cast-beside
 overflow_cast-beside c =
     let k : ℕ = c.loop-k.k in
@@ -155,20 +121,6 @@ overflow_cast-beside c =
     let small : c.place_in-q.result < 729 = omega (arith, c.place_in-q.ensures, below) in
     omega (arith, small)
 
-pub offset_bounds-beside-n : goal.offset_bounds-beside-n
-offset_bounds-beside-n c =
-    let k : ℕ = c.loop-k.k in
-    let nine : k < 9 = omega (arith, c.loop-k-test.true, c.requires.0.2) in
-    let room : c.loop-k.n < 36 = omega (arith, c.loop-k.invariant.2, nine, c.requires.0.0) in
-    omega (arith, room)
-
-pub bounds-beside-n : goal.bounds-beside-n
-bounds-beside-n c =
-    let k : ℕ = c.loop-k.k in
-    let nine : k < 9 = omega (arith, c.loop-k-test.true, c.requires.0.2) in
-    let room : c.loop-k.n < 36 = omega (arith, c.loop-k.invariant.2, nine, c.requires.0.0) in
-    room
-
 pub bounds-marks-q : goal.bounds-marks-q
 bounds-marks-q c =
     let k : ℕ = c.loop-k.k in
@@ -177,19 +129,3 @@ bounds-marks-q c =
     let below : place_along c.line_of-line.result k < 729 = omega (arith, along, (place_at_lem c.args.p c.requires.1 (kind_at c.args.i) k nine).0) in
     let small : c.place_in-q.result < 729 = omega (arith, c.place_in-q.ensures, below) in
     small
-
-pub overflow_add-n : goal.overflow_add-n
-overflow_add-n c =
-    let k : ℕ = c.loop-k.k in
-    let nine : k < 9 = omega (arith, c.loop-k-test.true, c.requires.0.2) in
-    let room : c.loop-k.n < 36 = omega (arith, c.loop-k.invariant.2, nine, c.requires.0.0) in
-    omega (arith, room)
-
-pub overflow_add-k : goal.overflow_add-k
-overflow_add-k c =
-    let k : ℕ = c.loop-k.k in
-    let nine : k < 9 = omega (arith, c.loop-k-test.true, c.requires.0.2) in
-    omega (arith, nine)
-
-pub loop-k-smaller : goal.loop-k-smaller
-loop-k-smaller c = omega (arith, c.loop-k-test.true)

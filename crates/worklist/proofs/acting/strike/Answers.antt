@@ -7,10 +7,6 @@ use Rattle.worklist.proofs.Assigning.{ready_but}
 use Rattle.worklist.proofs.Striking.{strikes_already, strikes_new}
 use Rattle.worklist.proofs.acting.strike.Goals as goal
 
-pub assign-requires : goal.assign-requires
-assign-requires c =
-    (ready_but c.requires.0, (c.requires.1, c.if-marks-q-eq0.true), (omega arith, omega arith))
-
 pub returns-then-marks-q-eq0 : goal.returns-then-marks-q-eq0
 returns-then-marks-q-eq0 c =
     let e = c.assign.ensures in

@@ -11,9 +11,6 @@ use Rattle.worklist.proofs.Sums.{byte_true}
 use Rattle.worklist.proofs.Striking.{ListedFrom, strikes_same, strikes_none, strikes_more, strikes_open, listed_next}
 use Rattle.worklist.proofs.acting.strike_all.Goals as goal
 
-pub loop-left-init : goal.loop-left-init
-loop-left-init c = (omega arith, strikes_none c.args.set (λ q k. omega (arith, k.1, k.2)) c.requires.0)
-
 pub strike-w-requires : goal.strike-w-requires
 strike-w-requires c =
     let at : ℕ = c.loop-left.left - 1 in
@@ -42,19 +39,3 @@ pub returns : goal.returns
 returns c =
     let l = c.loop-left in
     strikes_same c.args.set (λ x k. (k.0, k.2, k.3)) (λ x k. (k.0, omega (arith, c.loop-left-test.false), k.1, k.2)) l.invariant.1
-
-pub overflow_sub-left : goal.overflow_sub-left
-overflow_sub-left c = omega (arith, c.loop-left-test.true)
-
-pub offset_bounds-beside-left : goal.offset_bounds-beside-left
-offset_bounds-beside-left c =
-    let within : c.loop-left.left - 1 < 36 = omega (arith, c.loop-left-test.true, c.loop-left.invariant.0, c.requires.1.few) in
-    omega (arith, within)
-
-pub bounds-beside-left : goal.bounds-beside-left
-bounds-beside-left c =
-    let within : c.loop-left.left - 1 < 36 = omega (arith, c.loop-left-test.true, c.loop-left.invariant.0, c.requires.1.few) in
-    within
-
-pub loop-left-smaller : goal.loop-left-smaller
-loop-left-smaller c = omega (arith, c.loop-left-test.true)

@@ -10,16 +10,6 @@ use Rattle.worklist.specs.Acting.{sum_after}
 use Rattle.worklist.proofs.Sums.{weight_most}
 use Rattle.worklist.proofs.acting.weigh.Goals as goal
 
-pub overflow_add-sum : goal.overflow_add-sum
-overflow_add-sum c =
-    let fits : c.wide.result + c.weight.result < 65536 = omega (arith, c.wide.ensures, c.weight.ensures, c.requires.0.most, weight_most c.args.mark c.args.p c.requires.0.place) in
-    omega (arith, fits)
-
-pub overflow_cast-sums : goal.overflow_cast-sums
-overflow_cast-sums c =
-    let fits : c.wide.result + c.weight.result < 65536 = omega (arith, c.wide.ensures, c.weight.ensures, c.requires.0.most, weight_most c.args.mark c.args.p c.requires.0.place) in
-    omega (arith, fits)
-
 pub returns-then-sum-lt2048 : goal.returns-then-sum-lt2048
 returns-then-sum-lt2048 c =
     let after : ℕ = let a = c.args in sum_after a.sums.now a.slot a.p a.mark in
