@@ -38,9 +38,6 @@ module _ (grid : List ℕ) (order : List ℤ) (ceiling i n : ℕ) (stage : Stage
       → (t ≤ ceiling) × (rate_from grid order ceiling (drop (i + 1) stages) t ≡ rate_from grid order ceiling stages 0)
   next e q t h k = (omega (arith, h, within e q), ap (rate_from grid order ceiling (drop (i + 1) stages)) h ∙ sym k ∙ went e q)
 
-pub loop-i-init : goal.loop-i-init
-loop-i-init c = (omega arith, omega arith, refl)
-
 pub returns-in-Solved : goal.returns-in-Solved
 returns-in-Solved c =
     let a = c.args in

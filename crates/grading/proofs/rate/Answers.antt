@@ -5,10 +5,6 @@ use Rattle.search.proofs.Calls.{found_bytes}
 use Rattle.grading.proofs.Grading.{marks_complete, only_legal, graded_one, graded_none, graded_several}
 use Rattle.grading.proofs.rate.Goals as goal
 
-pub copy_out-requires : goal.copy_out-requires
-copy_out-requires c =
-    c.requires.2 ∙ sym (found_bytes c.find-found.result c.args.grid.now c.find-found.ensures).0
-
 pub climb-rating-requires : goal.climb-rating-requires
 climb-rating-requires c =
     let a = c.args in
