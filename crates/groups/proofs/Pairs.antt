@@ -1,7 +1,7 @@
 -- The numbers of pairs: the code's arithmetic is that of the shapes, and the pairs of a place are exactly the two-literal clauses that it is in.
 -- Assumes nothing.
 use mathlib.Core.Path.{◌≡◌, refl, ap, sym, subst, ◌∙◌}
-use mathlib.Core.Logic.{◌⊎◌, inl, inr, ⊎_elim}
+use mathlib.Core.Logic.{inl, inr, ⊎_elim}
 use mathlib.Core.Bool.{Bool, true, false, cond, ◌&&◌}
 use mathlib.Core.List.{List, [], ◌∷◌}
 use Prim.Native.Nat.{ℕ, zero, suc, ◌+◌, ◌*◌, ◌-◌, ◌/◌, ◌%◌, ◌≤◌, ◌<◌}
@@ -14,7 +14,7 @@ use lib.ListN.{length, get_or}
 use Rattle.grid.specs.Counting.{all}
 use Rattle.grid.proofs.Table.{and_iff}
 use Rattle.grid.proofs.Counting.{all_iff}
-use Rattle.clauses.specs.Clauses.{Clause, clauses_of}
+use Rattle.clauses.specs.Clauses.{clauses_of}
 use Rattle.clauses.specs.Shape.{place_of, IsShape, InSet, clause_of, shape_of, pair_index, row_index, rows_index, number_of as shapeNumber}
 use Rattle.clauses.specs.declared.ClauseSet.{ClauseSet}
 use Rattle.clauses.specs.declared.Group.{Group}

@@ -2,7 +2,6 @@
 use mathlib.Core.Path.{ap}
 use borrow.Author.Tests.{eq-eqb, ne_eqb}
 use Rattle.clauses.specs.Call.{clause_call}
-use borrow.Author.Rules.{rules}
 use Rattle.clauses.proofs.clause.Goals as goal
 
 pub returns-then-set-eq1 : goal.returns-then-set-eq1

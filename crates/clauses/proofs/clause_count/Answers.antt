@@ -4,7 +4,6 @@ use lib.ListN.{length}
 use Rattle.clauses.specs.Clauses.{clauses_of}
 use Rattle.clauses.specs.declared.ClauseSet.TheVariants.{Minimal, Extended}
 use Rattle.clauses.proofs.Numbers.{set_long}
-use borrow.Author.Rules.{rules}
 use Rattle.clauses.proofs.clause_count.Goals as goal
 
 pub returns-in-Minimal : goal.returns-in-Minimal

@@ -10,7 +10,6 @@ use Rattle.clauses.specs.Call.{clause_given, padded}
 use Rattle.clauses.specs.Shape.{IsShape, clause_of}
 use Rattle.clauses.specs.declared.ClauseAnswer.TheVariants.{Length}
 use Rattle.clauses.proofs.Numbers.{sizes, set_long, shape_is, clause_at}
-use borrow.Author.Rules.{rules}
 use Rattle.clauses.proofs.clause_of.Goals as goal
 
 pub returns-then-clause_count-n : goal.returns-then-clause_count-n

@@ -1,5 +1,4 @@
 -- Each way out of the check has the tests of `grid_check` that lead to its case.
-use borrow.Author.Rules.{rules}
 use borrow.Author.Tests.{eq-eqb, ne_eqb, lt-ltb, le-ltb}
 use lib.ListN.{length}
 use Rattle.grid.specs.Refusals.{grid_check}

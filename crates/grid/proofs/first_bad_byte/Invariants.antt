@@ -1,12 +1,9 @@
 -- A scan from the left: the bytes before i all have a meaning.
-use mathlib.Core.Path.{sym, ap, ◌∙◌}
 use mathlib.Core.Bool.{Bool, not}
 use Prim.Native.Nat.{ℕ, ◌-◌}
-use native.Mathlib.Omega.{arith}
 use lib.ListN.{length}
 use Rattle.grid.specs.Grid.{has_meaning}
-use Rattle.grid.specs.Refusals.{first_bad}
-use Rattle.grid.proofs.First.{Scanned, first_here, first_later, first_none}
+use Rattle.grid.proofs.First.{Scanned}
 use Rattle.grid.proofs.first_bad_byte.Given as goal
 
 abbrev pub bad : ℕ → Bool

@@ -3,11 +3,9 @@ use mathlib.Core.Path.{◌≡◌, ap, sym, ◌∙◌}
 use mathlib.Core.List.{List, [], ◌∷◌}
 use Prim.Native.Nat.{ℕ, zero, suc, ◌+◌, ◌<◌}
 use native.Mathlib.Nat.{add-zero, zero-add, add-suc, suc-add, le_of_suc-le-suc, not-suc-le-zero}
-use native.Mathlib.Omega.{arith}
 use borrow.Author.Rules.{rules}
 use lib.ListN.{get_or}
 use Rattle.grid.specs.House.{cell_of}
-use Rattle.grid.proofs.House.{cell_below}
 use Rattle.grid.proofs.house_cell.Goals as goal
 
 module _ {A : Type 0} (f : ℕ → A) where

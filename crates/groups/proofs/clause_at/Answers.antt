@@ -1,7 +1,6 @@
 -- Each arm is the number of its kind: F1 begins at 0, F7 at 11,745, F8 at 11,826 and F9 at 11,907.
 use mathlib.Core.Path.{◌≡◌, ap, sym, ◌∙◌}
 use Prim.Native.Nat.{◌+◌, ◌*◌, ◌/◌, ◌%◌}
-use borrow.Author.Rules.{rules}
 use Rattle.groups.specs.Groups.{clause_in, slot_at}
 use Rattle.groups.proofs.Slots.{box_row, box_column, cell_clause, column_clause, row_clause, box_clause}
 use Rattle.groups.proofs.clause_at.Goals as goal

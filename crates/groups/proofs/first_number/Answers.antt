@@ -1,7 +1,6 @@
 -- Each arm is the number of its kind.
 use mathlib.Core.Path.{refl, ap, sym}
 use Prim.Native.Nat.{◌/◌, ◌%◌}
-use borrow.Author.Rules.{rules}
 use borrow.Author.Tests.{eq-eqb, ne_eqb}
 use Rattle.groups.specs.Groups.{first_number}
 use Rattle.groups.proofs.first_number.Goals as goal

@@ -1,7 +1,6 @@
 -- What comes after the first three is the box.
 use mathlib.Core.Path.{◌≡◌, refl}
 use Prim.Native.Nat.{ℕ, zero, suc}
-use borrow.Author.Rules.{rules}
 use Rattle.groups.specs.Groups.{kind_at}
 use Rattle.groups.specs.declared.Kind.TheVariants.{Box}
 use Rattle.groups.proofs.kind_at.Goals as goal

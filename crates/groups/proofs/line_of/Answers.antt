@@ -4,7 +4,6 @@ use native.Mathlib.Omega.{arith}
 use Rattle.clauses.specs.Shape.{place_of}
 use Rattle.groups.specs.Groups.{group_at}
 use Rattle.groups.proofs.Slots.{cell_place, row_place, column_place, box_place}
-use borrow.Author.Rules.{rules}
 use Rattle.groups.proofs.line_of.Goals as goal
 
 pub returns-in-Cell : goal.returns-in-Cell

@@ -1,6 +1,5 @@
 -- Each arm is the row of its kind.
 use mathlib.Core.Path.{ap, sym}
-use borrow.Author.Rules.{rules}
 use Rattle.groups.specs.Groups.{index_at, row_at}
 use Rattle.groups.proofs.row_at.Goals as goal
 

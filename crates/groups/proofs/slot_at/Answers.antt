@@ -1,8 +1,6 @@
 -- Each arm is the slot of its kind.
 use mathlib.Core.Path.{◌≡◌, ap, sym, ◌∙◌}
 use Prim.Native.Nat.{◌+◌, ◌*◌, ◌/◌, ◌%◌}
-use native.Mathlib.Omega.{arith}
-use borrow.Author.Rules.{rules}
 use Rattle.groups.specs.Groups.{slot_at}
 use Rattle.groups.proofs.Slots.{box_row, box_column}
 use Rattle.groups.proofs.slot_at.Goals as goal

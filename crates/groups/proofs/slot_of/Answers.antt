@@ -1,7 +1,6 @@
 -- A clause of F1 has a number below 81, and every other one of at least 11,745.
 use mathlib.Core.Logic.{⊎_elim}
 use native.Mathlib.Omega.{arith}
-use borrow.Author.Rules.{rules}
 use Rattle.groups.proofs.Slots.{clause_number}
 use Rattle.groups.proofs.slot_of.Goals as goal
 

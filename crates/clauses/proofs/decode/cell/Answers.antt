@@ -1,7 +1,6 @@
 -- The three kinds of house, as `cell_of` has them.
 use borrow.Author.Tests.{lt-ltb, le-ltb}
 use Rattle.grid.specs.House.{cell_of}
-use borrow.Author.Rules.{rules}
 use Rattle.clauses.proofs.decode.cell.Goals as goal
 
 pub returns-then-house-lt9 : goal.returns-then-house-lt9

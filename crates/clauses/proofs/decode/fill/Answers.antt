@@ -1,11 +1,9 @@
 -- Each arm fills the clause of its shape.
 use mathlib.Core.Path.{ap, sym, subst, ◌∙◌}
 use mathlib.Core.List.{[], ◌∷◌}
-use native.Mathlib.Omega.{arith}
 use lib.IntN.{negsuc}
 use Rattle.clauses.specs.Call.{padded}
 use Rattle.clauses.specs.Shape.{IsShape, clause_of}
-use borrow.Author.Rules.{rules}
 use Rattle.clauses.proofs.decode.fill.Goals as goal
 
 pub place-requires-in-NotBoth : goal.place-requires-in-NotBoth

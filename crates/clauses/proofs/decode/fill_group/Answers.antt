@@ -1,12 +1,11 @@
 -- The first k lent literals are the group's; after nine turns all are.
 use mathlib.Core.Path.{ap, sym, ◌∙◌}
-use Prim.Native.Nat.{suc, ◌-◌}
-use native.Mathlib.Omega.{arith}
+use Prim.Native.Nat.{suc}
 use lib.IntN.{pos}
 use Rattle.clauses.specs.Shape.{clause_of}
 use Rattle.clauses.specs.declared.Shape.TheVariants.{OneOf}
 use Rattle.clauses.proofs.Signed.{returned}
-use Rattle.clauses.proofs.Filling.{Filled, filled_none, filled_more, filled_all, group_at_lem, group_short}
+use Rattle.clauses.proofs.Filling.{filled_more, filled_all, group_at_lem, group_short}
 use Rattle.clauses.proofs.decode.fill_group.Goals as goal
 
 pub loop-k-preserved : goal.loop-k-preserved

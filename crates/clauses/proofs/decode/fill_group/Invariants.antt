@@ -1,12 +1,8 @@
 -- The first k lent literals are the group's; after nine turns all are.
-use mathlib.Core.Path.{ap, sym, ◌∙◌}
-use Prim.Native.Nat.{suc, ◌-◌}
-use native.Mathlib.Omega.{arith}
-use lib.IntN.{pos}
+use Prim.Native.Nat.{◌-◌}
 use Rattle.clauses.specs.Shape.{clause_of}
 use Rattle.clauses.specs.declared.Shape.TheVariants.{OneOf}
-use Rattle.clauses.proofs.Signed.{returned}
-use Rattle.clauses.proofs.Filling.{Filled, filled_none, filled_more, filled_all, group_at_lem, group_short}
+use Rattle.clauses.proofs.Filling.{Filled}
 use Rattle.clauses.proofs.decode.fill_group.Given as goal
 
 abbrev pub invariant-loop-k : goal.invariant-loop-k

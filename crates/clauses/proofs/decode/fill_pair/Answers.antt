@@ -1,13 +1,9 @@
 -- Two literals are written, and then zeros: the first k lent literals are the clause's, padded.
-use mathlib.Core.Path.{◌≡◌, refl, sym, ◌∙◌}
-use mathlib.Core.List.{[], ◌∷◌}
-use Prim.Native.Nat.{ℕ, zero, suc, ◌-◌, ◌≤◌}
+use mathlib.Core.Path.{◌≡◌, refl}
+use Prim.Native.Nat.{ℕ, zero, suc, ◌≤◌}
 use native.Mathlib.Omega.{arith}
-use lib.IntN.{pos, negsuc}
-use lib.ListN.{length-set}
-use Rattle.clauses.specs.Clauses.{Clause}
-use Rattle.clauses.proofs.Signed.{returned}
-use Rattle.clauses.proofs.Filling.{literal_at, Filled, filled_none, filled_more, filled_all}
+use lib.IntN.{pos}
+use Rattle.clauses.proofs.Filling.{literal_at, filled_more, filled_all}
 use Rattle.clauses.proofs.decode.fill_pair.Invariants.{two}
 use Rattle.clauses.proofs.decode.fill_pair.Goals as goal
 

@@ -1,13 +1,9 @@
 -- Two literals are written, and then zeros: the first k lent literals are the clause's, padded.
-use mathlib.Core.Path.{◌≡◌, refl, sym, ◌∙◌}
 use mathlib.Core.List.{[], ◌∷◌}
-use Prim.Native.Nat.{ℕ, zero, suc, ◌-◌, ◌≤◌}
-use native.Mathlib.Omega.{arith}
-use lib.IntN.{pos, negsuc}
-use lib.ListN.{length-set}
+use Prim.Native.Nat.{ℕ, ◌-◌, ◌≤◌}
+use lib.IntN.{negsuc}
 use Rattle.clauses.specs.Clauses.{Clause}
-use Rattle.clauses.proofs.Signed.{returned}
-use Rattle.clauses.proofs.Filling.{literal_at, Filled, filled_none, filled_more, filled_all}
+use Rattle.clauses.proofs.Filling.{Filled}
 use Rattle.clauses.proofs.decode.fill_pair.Given as goal
 
 abbrev pub two : ℕ → ℕ → Clause

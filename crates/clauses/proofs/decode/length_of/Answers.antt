@@ -2,7 +2,6 @@
 use mathlib.Core.Path.{ap, sym}
 use lib.ListN.{length}
 use Rattle.clauses.specs.Shape.{clause_of}
-use borrow.Author.Rules.{rules}
 use Rattle.clauses.proofs.decode.length_of.Goals as goal
 
 pub returns-in-OneOf : goal.returns-in-OneOf

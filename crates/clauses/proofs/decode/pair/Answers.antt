@@ -2,7 +2,6 @@
 use mathlib.Core.Path.{ap}
 use Prim.Native.Nat.{◌/◌, ◌%◌}
 use Rattle.clauses.specs.declared.Shape.TheVariants.{NotBoth}
-use borrow.Author.Rules.{rules}
 use Rattle.clauses.proofs.decode.pair.Goals as goal
 
 pub returns : goal.returns

@@ -4,7 +4,6 @@ use Prim.Native.Nat.{◌+◌, ◌*◌, ◌<◌}
 use native.Mathlib.Omega.{arith}
 use Rattle.grid.proofs.House.{cell_below}
 use Rattle.clauses.specs.Shape.{place_of, IsGroup}
-use borrow.Author.Rules.{rules}
 use Rattle.clauses.proofs.decode.place.Goals as goal
 
 pub overflow_mul-result-in-House : goal.overflow_mul-result-in-House

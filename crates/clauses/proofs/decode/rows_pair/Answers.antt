@@ -1,6 +1,5 @@
 -- The first row's pairs, then the second's.
 use borrow.Author.Tests.{lt-ltb, le-ltb}
-use borrow.Author.Rules.{rules}
 use Rattle.clauses.proofs.decode.rows_pair.Goals as goal
 
 pub returns-then-t-lt18 : goal.returns-then-t-lt18

@@ -5,7 +5,6 @@ use native.Mathlib.Omega.{arith}
 use Rattle.clauses.specs.Shape.{pair_of, row_pair, rows_pair}
 use Rattle.clauses.specs.declared.Shape.TheVariants.{OneOf}
 use Rattle.clauses.proofs.Families.{shape_F1, shape_F2, shape_F3, shape_F4, shape_F5, shape_F6, shape_F7, shape_F8, shape_F9}
-use borrow.Author.Rules.{rules}
 use Rattle.clauses.proofs.decode.shape.Goals as goal
 
 pub returns-then-n-lt81 : goal.returns-then-n-lt81

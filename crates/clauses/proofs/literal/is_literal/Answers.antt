@@ -4,7 +4,6 @@ use lib.IntN.{nat_abs}
 use borrow.Author.Tests.{le-leb, lt-leb}
 use Rattle.clauses.specs.Literal.{is_literal}
 use Rattle.clauses.proofs.Signed.{read}
-use borrow.Author.Rules.{rules}
 use Rattle.clauses.proofs.literal.is_literal.Goals as goal
 
 pub returns-then-m-lt1 : goal.returns-then-m-lt1

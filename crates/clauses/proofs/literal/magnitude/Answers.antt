@@ -1,14 +1,12 @@
 -- Below 0 the code takes -1 - l, which fits where -l may not, and adds 1.
 use mathlib.Core.Path.{◌≡◌, sym, ap, ◌∙◌}
-use mathlib.Core.Bool.{true, false}
+use mathlib.Core.Bool.{true}
 use Prim.Native.Nat.{◌+◌}
-use native.Mathlib.Omega.{arith}
 use lib.IntN.{pos, negsuc, nat_abs, ◌-ℤ◌}
 use lib.Signed.{mag, lt_z}
 use mir.Syntax.{w16}
 use mir.Val.{SFits, to_z, of_z}
-use Rattle.clauses.proofs.Signed.{read, test_of, less_one, not_below}
-use borrow.Author.Rules.{rules}
+use Rattle.clauses.proofs.Signed.{read, test_of, less_one}
 use Rattle.clauses.proofs.literal.magnitude.Goals as goal
 
 pub returns-then-l-lt0 : goal.returns-then-l-lt0

@@ -3,7 +3,6 @@ use mathlib.Core.Path.{ap, ◌∙◌}
 use native.Mathlib.Omega.{arith}
 use lib.IntN.{nat_abs}
 use Rattle.clauses.proofs.Signed.{read}
-use borrow.Author.Rules.{rules}
 use Rattle.clauses.proofs.literal.mark_index.Goals as goal
 
 pub returns-then-m-eq0 : goal.returns-then-m-eq0

@@ -6,7 +6,6 @@ use mir.Syntax.{w16}
 use mir.Val.{SFits}
 use Rattle.clauses.specs.Literal.{is_literal, negation}
 use Rattle.clauses.proofs.Signed.{read, zero_less, literal_iff, negation_fits}
-use borrow.Author.Rules.{rules}
 use Rattle.clauses.proofs.literal.negated.Goals as goal
 
 pub overflow_sub-result : goal.overflow_sub-result

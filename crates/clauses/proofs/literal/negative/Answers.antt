@@ -1,7 +1,6 @@
 -- The difference is the literal, and fits.
 use lib.IntN.{negsuc}
 use Rattle.clauses.proofs.Signed.{read, negative_is, negative_fits}
-use borrow.Author.Rules.{rules}
 use Rattle.clauses.proofs.literal.negative.Goals as goal
 
 pub returns : goal.returns

@@ -3,7 +3,6 @@ use mathlib.Core.Path.{ap, ◌∙◌}
 use native.Mathlib.Omega.{arith}
 use lib.IntN.{pos}
 use Rattle.clauses.proofs.Signed.{read, place_is}
-use borrow.Author.Rules.{rules}
 use Rattle.clauses.proofs.literal.positive.Goals as goal
 
 pub overflow_add-result : goal.overflow_add-result

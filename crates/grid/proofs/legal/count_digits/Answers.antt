@@ -10,7 +10,6 @@ use lib.ListN.{length, get_or, get_or-replicate, set, length-set}
 use lib.Seq.{get_or-set_same, get_or-set_other}
 use Rattle.grid.specs.Counting.{tick, tally, total}
 use Rattle.grid.specs.Grid.{byte}
-use Rattle.grid.specs.House.{cell_of}
 use Rattle.grid.specs.Completion.{times}
 use Rattle.grid.proofs.Counting.{tally_more, tally_bound}
 use Rattle.grid.proofs.House.{cell_below}

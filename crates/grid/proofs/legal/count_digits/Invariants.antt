@@ -1,20 +1,12 @@
 -- One pass over the house: after k cells, place d has the number of those where the digit d + 1 stands.
-use mathlib.Core.Path.{◌≡◌, refl, ap}
+use mathlib.Core.Path.{◌≡◌}
 use mathlib.Core.List.{List}
 use Prim.Native.Nat.{ℕ, ◌+◌, ◌-◌, ◌≤◌, ◌<◌}
-use native.Mathlib.Decide.{ℕ_discrete}
-use native.Mathlib.Omega.{arith}
-use borrow.Author.Tests.{eq-eqb, ne_eqb}
 use lib.Dec.{eqb}
-use lib.ListN.{length, get_or, get_or-replicate, set, length-set}
-use lib.Seq.{get_or-set_same, get_or-set_other}
-use Rattle.grid.specs.Counting.{tick, tally, total}
+use lib.ListN.{length, get_or}
+use Rattle.grid.specs.Counting.{tally}
 use Rattle.grid.specs.Grid.{byte}
 use Rattle.grid.specs.House.{cell_of}
-use Rattle.grid.specs.Completion.{times}
-use Rattle.grid.proofs.Counting.{tally_more, tally_bound}
-use Rattle.grid.proofs.House.{cell_below}
-use Rattle.grid.proofs.Completion.{full_digit}
 use Rattle.grid.proofs.legal.count_digits.Given as goal
 
 -- the counts of k bytes, f 0 to f (k - 1): place d has that of the digit d + 1

@@ -1,13 +1,9 @@
 -- A scan of the houses: those before `house` have each digit once.
-use mathlib.Core.Path.{sym, ◌∙◌}
 use Prim.Native.Nat.{◌-◌}
-use native.Mathlib.Omega.{arith}
-use borrow.Author.Rules.{rules}
-use borrow.Author.Tests.{not-true, not-false}
 use lib.Dec.{eqb}
 use Rattle.grid.specs.Counting.{all}
 use Rattle.grid.specs.Completion.{times}
-use Rattle.grid.proofs.Counting.{Passed, passed_none, passed_more, passed_all, one_fails}
+use Rattle.grid.proofs.Counting.{Passed}
 use Rattle.grid.proofs.legal.each_once.Given as goal
 
 abbrev pub invariant-loop-house : goal.invariant-loop-house

@@ -1,7 +1,6 @@
 -- The tests are those of `is_completion`, in its order; a test that is reached has the earlier ones passed.
 use mathlib.Core.Path.{◌≡◌, sym, ◌∙◌}
 use mathlib.Core.Bool.{true}
-use borrow.Author.Tests.{not-true, not-false}
 use Rattle.grid.specs.Completion.{is_grid, is_full, is_legal, is_completion}
 use Rattle.grid.proofs.Completion.{grid_long, full_long}
 use Rattle.grid.proofs.legal.is_completion.Goals as goal

@@ -1,11 +1,9 @@
 -- A scan of the cells: those before `cell` have digits.
 use mathlib.Core.Path.{sym, ◌∙◌}
-use Prim.Native.Nat.{◌-◌}
 use native.Mathlib.Omega.{arith}
-use borrow.Author.Tests.{eq-eqb, ne_eqb, not-true, not-false}
+use borrow.Author.Tests.{eq-eqb, ne_eqb}
 use lib.ListN.{length}
-use Rattle.grid.specs.Grid.{byte, is_digit}
-use Rattle.grid.proofs.Counting.{Passed, passed_none, passed_more, passed_all, one_fails}
+use Rattle.grid.proofs.Counting.{passed_none, passed_more, passed_all, one_fails}
 use Rattle.grid.proofs.legal.is_full.Goals as goal
 
 pub returns-then-candidate-ne81 : goal.returns-then-candidate-ne81

@@ -1,11 +1,7 @@
 -- A scan of the cells: those before `cell` have digits.
-use mathlib.Core.Path.{sym, ◌∙◌}
 use Prim.Native.Nat.{◌-◌}
-use native.Mathlib.Omega.{arith}
-use borrow.Author.Tests.{eq-eqb, ne_eqb, not-true, not-false}
-use lib.ListN.{length}
 use Rattle.grid.specs.Grid.{byte, is_digit}
-use Rattle.grid.proofs.Counting.{Passed, passed_none, passed_more, passed_all, one_fails}
+use Rattle.grid.proofs.Counting.{Passed}
 use Rattle.grid.proofs.legal.is_full.Given as goal
 
 abbrev pub invariant-loop-cell : goal.invariant-loop-cell

@@ -1,6 +1,5 @@
 -- The keyer's check accepts exactly the grids.
 use mathlib.Core.Path.{sym, ◌∙◌}
-use borrow.Author.Rules.{rules}
 use Rattle.grid.specs.Completion.{is_grid}
 use Rattle.grid.proofs.Table.{true_is, false_is}
 use Rattle.grid.proofs.Completion.{grid_iff, not_accepted}

@@ -1,12 +1,7 @@
 -- A scan of the cells: those before `cell` keep their givens.
 use mathlib.Core.Path.{sym, ◌∙◌}
-use mathlib.Core.Bool.{not, ◌||◌}
-use Prim.Native.Nat.{◌-◌}
 use native.Mathlib.Omega.{arith}
-use borrow.Author.Tests.{not-true, not-false}
-use lib.Dec.{eqb}
-use Rattle.grid.specs.Grid.{byte, is_digit}
-use Rattle.grid.proofs.Counting.{Passed, passed_none, passed_more, passed_all, one_fails}
+use Rattle.grid.proofs.Counting.{passed_none, passed_more, passed_all, one_fails}
 use Rattle.grid.proofs.legal.keeps_givens.Goals as goal
 
 pub returns-then-not-keeps_given : goal.returns-then-not-keeps_given

@@ -1,13 +1,13 @@
 -- The first q sums of each kind are those of nothing decided.
-use mathlib.Core.Path.{◌≡◌, refl, ap, sym, ◌∙◌}
+use mathlib.Core.Path.{◌≡◌, ap, sym, ◌∙◌}
 use mathlib.Core.List.{List}
-use Prim.Native.Nat.{ℕ, zero, suc, ◌+◌, ◌*◌, ◌-◌, ◌≤◌, ◌<◌}
+use Prim.Native.Nat.{ℕ, ◌+◌, ◌*◌, ◌<◌}
 use native.Mathlib.Decide.{ℕ_discrete}
 use native.Mathlib.Omega.{arith}
-use lib.ListN.{length, get_or, set, length-set}
+use lib.ListN.{get_or, set, length-set}
 use lib.Seq.{get_or-set_same, get_or-set_other}
 use Rattle.propagation.proofs.Givens.{blank_sum, blank_sums_ok}
-use Rattle.propagation.proofs.close.blank_sums.Invariants.{Filled, Filling}
+use Rattle.propagation.proofs.close.blank_sums.Invariants.{Filling}
 use Rattle.propagation.proofs.close.blank_sums.Goals as goal
 
 fill : (q n : ℕ) (a : List ℕ) (x : ℕ) → n < 4 → q < 81 → x ≡ 81 * n + q → Filling q n a → Filling q (n + 1) (set a x (blank_sum n q))

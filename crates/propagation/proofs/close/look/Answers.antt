@@ -2,7 +2,6 @@
 use mathlib.Core.Path.{◌≡◌, ap, sym, subst, ◌∙◌}
 use Prim.Native.Nat.{ℕ, ◌-◌, ◌≤◌, ◌<◌}
 use native.Mathlib.Omega.{arith}
-use borrow.Author.Rules.{rules}
 use lib.ListN.{get_or, set}
 use Rattle.worklist.specs.Acting.{Stepped, Struck, Undecided, Ready, At}
 use Rattle.propagation.proofs.Looking.{rest, slot, slot_small, is_clause, last_below, look_nothing, look_clash, place_left, look_place}

@@ -1,7 +1,6 @@
 -- The place gets its mark, and its pairs that may act are listed and act.
 use mathlib.Core.Path.{◌≡◌, sym, subst}
 use native.Mathlib.Omega.{arith}
-use borrow.Author.Rules.{rules}
 use lib.ListN.{set}
 use Rattle.closure.specs.Marks.{IsMarks}
 use Rattle.closure.proofs.Marks.{decided_rises}

@@ -1,8 +1,7 @@
 -- The sums follow kind by kind.
 use mathlib.Core.Path.{◌≡◌, refl, ap, sym, subst, ◌∙◌}
-use Prim.Native.Nat.{◌-◌, ◌≤◌}
+use Prim.Native.Nat.{◌≤◌}
 use native.Mathlib.Omega.{arith}
-use borrow.Author.Rules.{rules}
 use lib.ListN.{set}
 use Rattle.closure.proofs.Marks.{decided_bounded}
 use Rattle.groups.specs.Groups.{kind_at, clause_in, slot_at}

@@ -1,8 +1,6 @@
 -- Kind by kind, and the box by its rows.
-use mathlib.Core.Path.{ap, ◌∙◌}
-use mathlib.Core.Logic.{inl, inr, ⊎_elim}
+use mathlib.Core.Path.{ap}
 use native.Mathlib.Omega.{arith}
-use borrow.Author.Rules.{rules}
 use Rattle.groups.specs.Groups.{first_pair}
 use Rattle.worklist.specs.Acting.{ListedTo}
 use Rattle.groups.proofs.Slots.{first_below}

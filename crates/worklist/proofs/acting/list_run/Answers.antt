@@ -1,16 +1,15 @@
 -- The pairs with the places before the k-th are listed where they may act.
 use mathlib.Core.Path.{◌≡◌, ap, sym, subst, ◌∙◌}
 use mathlib.Core.Logic.{◌⊎◌, inl, inr, ⊎_elim}
-use Prim.Native.Nat.{ℕ, ◌+◌, ◌*◌, ◌-◌, ◌/◌, ◌≤◌, ◌<◌}
+use Prim.Native.Nat.{ℕ, ◌+◌, ◌/◌, ◌<◌}
 use native.Mathlib.Omega.{arith}
-use borrow.Author.Rules.{rules}
 use lib.ListN.{get_or, set}
 use Rattle.clauses.specs.Shape.{place_of}
 use Rattle.groups.specs.Groups.{group_at, kind_at, place_along, first_number, row_at, pair_table, pair_number}
-use Rattle.worklist.specs.Acting.{Pairs, Opened, Front}
+use Rattle.worklist.specs.Acting.{Pairs, Opened}
 use Rattle.groups.proofs.Slots.{place_at_lem}
 use Rattle.groups.proofs.Pairs.{first_same, row_below, number_small}
-use Rattle.worklist.proofs.Listing.{front_same, front_more, front_set, opened_next}
+use Rattle.worklist.proofs.Listing.{front_more, front_set, opened_next}
 use Rattle.worklist.proofs.acting.list_run.Goals as goal
 use Rattle.worklist.proofs.acting.list_run.Goals.{then-marks-q-eq0, else-marks-q-eq0}
 

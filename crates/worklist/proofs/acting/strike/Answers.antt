@@ -1,9 +1,6 @@
 -- The byte of the place says which case it is.
 use mathlib.Core.Path.{◌≡◌, sym, subst}
-use native.Mathlib.Omega.{arith}
-use borrow.Author.Rules.{rules}
 use Rattle.worklist.specs.Acting.{Ready, Strikes}
-use Rattle.worklist.proofs.Assigning.{ready_but}
 use Rattle.worklist.proofs.Striking.{strikes_already, strikes_new}
 use Rattle.worklist.proofs.acting.strike.Goals as goal
 

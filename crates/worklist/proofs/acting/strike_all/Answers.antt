@@ -1,14 +1,12 @@
 -- The places beside the pairs from the next one on are struck.
 use mathlib.Core.Path.{◌≡◌, sym, subst, ◌∙◌}
-use mathlib.Core.Logic.{◌⊎◌, inl, inr, ⊎_elim}
-use mathlib.Core.List.{List}
-use Prim.Native.Nat.{ℕ, ◌-◌, ◌≤◌, ◌<◌}
+use mathlib.Core.Logic.{inl, inr, ⊎_elim}
+use Prim.Native.Nat.{ℕ, ◌-◌}
 use native.Mathlib.Omega.{arith}
-use borrow.Author.Rules.{rules}
 use lib.ListN.{get_or}
-use Rattle.worklist.specs.Acting.{True, Strikes}
+use Rattle.worklist.specs.Acting.{True}
 use Rattle.worklist.proofs.Sums.{byte_true}
-use Rattle.worklist.proofs.Striking.{ListedFrom, strikes_same, strikes_none, strikes_more, strikes_open, listed_next}
+use Rattle.worklist.proofs.Striking.{strikes_same, strikes_more, strikes_open, listed_next}
 use Rattle.worklist.proofs.acting.strike_all.Goals as goal
 
 pub strike-w-requires : goal.strike-w-requires

@@ -1,13 +1,11 @@
 -- The sum fits, since nine places weigh at most 24,984; and whether the clause stays on the list is the test of the sum.
 use mathlib.Core.Path.{◌≡◌, ap, sym}
 use mathlib.Core.Bool.{cond}
-use Prim.Native.Nat.{ℕ, ◌+◌, ◌-◌, ◌<◌}
+use Prim.Native.Nat.{ℕ, ◌+◌, ◌-◌}
 use native.Mathlib.Omega.{arith}
-use borrow.Author.Rules.{rules}
 use borrow.Author.Tests.{lt-ltb, le-ltb}
 use lib.ListN.{set}
 use Rattle.worklist.specs.Acting.{sum_after}
-use Rattle.worklist.proofs.Sums.{weight_most}
 use Rattle.worklist.proofs.acting.weigh.Goals as goal
 
 pub returns-then-sum-lt2048 : goal.returns-then-sum-lt2048

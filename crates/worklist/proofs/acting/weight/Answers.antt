@@ -1,7 +1,6 @@
 -- The marks by cases.
 use mathlib.Core.Path.{◌≡◌, refl, ap, sym}
 use Prim.Native.Nat.{ℕ, zero, suc}
-use borrow.Author.Rules.{rules}
 use Rattle.worklist.specs.Sums.{weight}
 use Rattle.worklist.proofs.acting.weight.Goals as goal
 
