@@ -9,7 +9,6 @@ use lib.IntN.{ℤ}
 use lib.ListN.{length}
 use Rattle.grid.specs.Refusals.{refusal, on_accepted, grid_check}
 use Rattle.grid.specs.declared.Checked.{Checked}
-use Rattle.grid.specs.declared.Checked.TheVariants as check
 use Rattle.orders.specs.Order.{order_check}
 use Rattle.orders.specs.Technique.{technique_of, on_known}
 use Rattle.orders.specs.declared.technique.Numbered.{Numbered}

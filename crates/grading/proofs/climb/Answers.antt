@@ -1,12 +1,10 @@
 -- The techniques before the i-th are tried, and the trials made are within the ceiling.
 use mathlib.Core.Path.{◌≡◌, refl, ap, sym, ◌∙◌}
 use mathlib.Core.List.{List, ◌∷◌}
-use Prim.Native.Nat.{ℕ, suc, ◌+◌, ◌-◌, ◌≤◌}
+use Prim.Native.Nat.{ℕ, ◌+◌, ◌≤◌}
 use native.Mathlib.Omega.{arith}
 use lib.IntN.{ℤ}
 use lib.ListN.{drop}
-use mir.Syntax.{w32}
-use mir.Val.{Fits}
 use Rattle.closure.specs.Job as job
 use Rattle.trials.specs.Steps.{end_of}
 use Rattle.trials.specs.declared.trial.End.{End}
@@ -34,7 +32,7 @@ module _ (grid : List ℕ) (order : List ℤ) (ceiling i n : ℕ) (stage : Stage
   -- where it neither solved nor stopped
   next : (e : End) → r ≡ e → (t : ℕ) → t ≡ n + job.count_of (end_of e marks)
       → after_job (end_of e marks) stage.verdict n (rate_from grid order ceiling (drop (i + 1) stages))
-          ≡ rate_from grid order ceiling (drop (i + 1) stages) (n + job.count_of (end_of e marks))
+      ≡ rate_from grid order ceiling (drop (i + 1) stages) (n + job.count_of (end_of e marks))
       → (t ≤ ceiling) × (rate_from grid order ceiling (drop (i + 1) stages) t ≡ rate_from grid order ceiling stages 0)
   next e q t h k = (omega (arith, h, within e q), ap (rate_from grid order ceiling (drop (i + 1) stages)) h ∙ sym k ∙ went e q)
 
@@ -62,7 +60,7 @@ loop-i-preserved c =
     let e = c.run_with-ended in
     let m = c.match-end in
     let more : (m.trials ≤ a.ceiling)
-        × (rate_from a.grid.now a.order.now a.ceiling (drop (l.i + 1) stages) m.trials ≡ rate_from a.grid.now a.order.now a.ceiling stages 0) = elim m.branch [
+    × (rate_from a.grid.now a.order.now a.ceiling (drop (l.i + 1) stages) m.trials ≡ rate_from a.grid.now a.order.now a.ceiling stages 0) = elim m.branch [
       | in-Open w ↦
           next a.grid.now a.order.now a.ceiling l.i l.trials s.result e.result.state.marks s.ensures e.ensures l.invariant.1 l.invariant.2
           (Open w.in-Open.n) w.in-Open.is m.trials w.trials-is refl

@@ -1,7 +1,4 @@
 -- By the number of completions that the search has found.
-use mathlib.Core.Path.{sym, ◌∙◌}
-use borrow.Author.Rules.{rules}
-use Rattle.search.proofs.Calls.{found_bytes}
 use Rattle.grading.proofs.Grading.{marks_complete, only_legal, graded_one, graded_none, graded_several}
 use Rattle.grading.proofs.rate.Goals as goal
 

@@ -1,7 +1,6 @@
 -- By the number.
 use mathlib.Core.Path.{◌≡◌, refl}
 use native.Mathlib.Omega.{arith}
-use borrow.Author.Rules.{rules}
 use Rattle.grading.proofs.stage_at.Goals as goal
 
 pub returns-then-i-eq0 : goal.returns-then-i-eq0

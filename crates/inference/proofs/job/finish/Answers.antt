@@ -2,7 +2,6 @@
 use mathlib.Core.Path.{◌≡◌, refl, ap, sym, ◌∙◌}
 use mathlib.Core.List.{List}
 use Prim.Native.Nat.{ℕ}
-use borrow.Author.Rules.{rules}
 use Rattle.trials.specs.Steps.{end_of}
 use Rattle.trials.specs.declared.trial.End.{End}
 use Rattle.inference.specs.Call.{Given, finished}

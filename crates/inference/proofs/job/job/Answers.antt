@@ -3,7 +3,6 @@ use mathlib.Core.Path.{◌≡◌, refl, ap, sym, ◌∙◌}
 use mathlib.Core.List.{List}
 use Prim.Native.Nat.{ℕ}
 use native.Mathlib.Omega.{arith}
-use borrow.Author.Rules.{rules}
 use lib.ListN.{length}
 use Rattle.grid.specs.Refusals.{grid_check}
 use Rattle.grid.specs.declared.Checked.TheVariants as check
@@ -35,36 +34,36 @@ returns-in-Refused c =
 pub returns-in-Unknown : goal.returns-in-Unknown
 returns-in-Unknown c =
     let long : length c.args.marks.now ≡ 729 = c.if-marks-ne729.false in
-    let grid-ok : check.Accepted ≡ grid_check c.args.grid.now = sym c.in-Accepted.is ∙ c.check_grid-keyed.ensures in
+    let grid_ok : check.Accepted ≡ grid_check c.args.grid.now = sym c.in-Accepted.is ∙ c.check_grid-keyed.ensures in
     let a = c.args in
     kept _ _ a.marks.now c.refused-in-Unknown.ensures
     ∙ call_checked a.grid.now a.technique a.order.now a.ceiling a.marks.now long check.Accepted _ (order_check a.order.now)
-    grid-ok (sym c.in-Unknown.is ∙ c.numbered-named.ensures) refl
+    grid_ok (sym c.in-Unknown.is ∙ c.numbered-named.ensures) refl
 
 pub returns-in-Refused-ordered : goal.returns-in-Refused-ordered
 returns-in-Refused-ordered c =
     let long : length c.args.marks.now ≡ 729 = c.if-marks-ne729.false in
-    let grid-ok : check.Accepted ≡ grid_check c.args.grid.now = sym c.in-Accepted.is ∙ c.check_grid-keyed.ensures in
+    let grid_ok : check.Accepted ≡ grid_check c.args.grid.now = sym c.in-Accepted.is ∙ c.check_grid-keyed.ensures in
     let known : Known c.in-Known.known ≡ technique_of c.args.technique = sym c.in-Known.is ∙ c.numbered-named.ensures in
     let a = c.args in
     call_checked a.grid.now a.technique a.order.now a.ceiling a.marks.now long check.Accepted _ _
-    grid-ok known (sym c.in-Refused-ordered.is ∙ c.check_order-ordered.ensures)
+    grid_ok known (sym c.in-Refused-ordered.is ∙ c.check_order-ordered.ensures)
 
 pub run-requires : goal.run-requires
 run-requires c =
-    let grid-ok : check.Accepted ≡ grid_check c.args.grid.now = sym c.in-Accepted.is ∙ c.check_grid-keyed.ensures in
-    let order-ok : check.Accepted ≡ order_check c.args.order.now = sym c.in-Accepted-ordered.is ∙ c.check_order-ordered.ensures in
+    let grid_ok : check.Accepted ≡ grid_check c.args.grid.now = sym c.in-Accepted.is ∙ c.check_grid-keyed.ensures in
+    let order_ok : check.Accepted ≡ order_check c.args.order.now = sym c.in-Accepted-ordered.is ∙ c.check_order-ordered.ensures in
     let a = c.args in
-    let o = accepted_order a.order.now (sym order-ok) in
-    (accepted_long a.grid.now (sym grid-ok), λ i h. o.1 i (omega (arith, h, o.0)))
+    let o = accepted_order a.order.now (sym order_ok) in
+    (accepted_long a.grid.now (sym grid_ok), λ i h. o.1 i (omega (arith, h, o.0)))
 
 pub returns-in-Accepted-ordered : goal.returns-in-Accepted-ordered
 unfolding job_of
 returns-in-Accepted-ordered c =
     let long : length c.args.marks.now ≡ 729 = c.if-marks-ne729.false in
-    let grid-ok : check.Accepted ≡ grid_check c.args.grid.now = sym c.in-Accepted.is ∙ c.check_grid-keyed.ensures in
+    let grid_ok : check.Accepted ≡ grid_check c.args.grid.now = sym c.in-Accepted.is ∙ c.check_grid-keyed.ensures in
     let known : Known c.in-Known.known ≡ technique_of c.args.technique = sym c.in-Known.is ∙ c.numbered-named.ensures in
-    let order-ok : check.Accepted ≡ order_check c.args.order.now = sym c.in-Accepted-ordered.is ∙ c.check_order-ordered.ensures in
+    let order_ok : check.Accepted ≡ order_check c.args.order.now = sym c.in-Accepted-ordered.is ∙ c.check_order-ordered.ensures in
     let a = c.args in
     c.finish.ensures ∙ ap finished c.run.ensures
-    ∙ call_checked a.grid.now a.technique a.order.now a.ceiling a.marks.now long check.Accepted _ check.Accepted grid-ok known order-ok
+    ∙ call_checked a.grid.now a.technique a.order.now a.ceiling a.marks.now long check.Accepted _ check.Accepted grid_ok known order_ok

@@ -1,5 +1,4 @@
 -- Nothing is known to succeed.
-use borrow.Author.Rules.{rules}
 use Rattle.trials.proofs.Knowing.{completion_none}
 use Rattle.inference.proofs.job.run.Goals as goal
 

@@ -2,7 +2,6 @@
 use mathlib.Core.Path.{◌≡◌, ap, sym, ◌∙◌}
 use mathlib.Core.List.{List}
 use Prim.Native.Nat.{ℕ}
-use borrow.Author.Rules.{rules}
 use Rattle.clauses.specs.Clauses.{clauses_of}
 use Rattle.clauses.specs.Models.{givens}
 use Rattle.closure.specs.Marks.{blank}
@@ -17,10 +16,10 @@ use Rattle.inference.proofs.job.run_with.Goals as goal
 pub returns-then-decided-eq729 : goal.returns-then-decided-eq729
 returns-then-decided-eq729 c =
     let marks : List ℕ = c.close_givens-begun.new.marks in
-    let is-closed : closed marks ≡ bind (join blank (givens c.args.grid.now)) (unit_closure (clauses_of c.args.technique.set)) = ap (λ x. answer_of x marks) (sym c.in-Decided.is) ∙ givens_computed c.args.technique.set c.args.grid.now c.close_givens-begun.ensures in
+    let is_closed : closed marks ≡ bind (join blank (givens c.args.grid.now)) (unit_closure (clauses_of c.args.technique.set)) = ap (λ x. answer_of x marks) (sym c.in-Decided.is) ∙ givens_computed c.args.technique.set c.args.grid.now c.close_givens-begun.ensures in
     let state : StateOk c.args.technique.set marks c.close_givens-begun.new.sums c.in-Decided.decided = closes_state c.close_givens-begun.ensures _ c.in-Decided.is in
     let a = c.args in
-    start_full (clauses_of a.technique.set) a.ceiling a.technique.trials a.order.now (givens a.grid.now) marks is-closed (sym state.count ∙ c.if-decided-eq729.true)
+    start_full (clauses_of a.technique.set) a.ceiling a.technique.trials a.order.now (givens a.grid.now) marks is_closed (sym state.count ∙ c.if-decided-eq729.true)
 
 pub passes-requires : goal.passes-requires
 passes-requires c =
@@ -38,16 +37,16 @@ returns-in-Clash c =
 pub returns-then-technique : goal.returns-then-technique
 returns-then-technique c =
     let marks : List ℕ = c.close_givens-begun.new.marks in
-    let is-closed : closed marks ≡ bind (join blank (givens c.args.grid.now)) (unit_closure (clauses_of c.args.technique.set)) = ap (λ x. answer_of x marks) (sym c.in-Decided.is) ∙ givens_computed c.args.technique.set c.args.grid.now c.close_givens-begun.ensures in
+    let is_closed : closed marks ≡ bind (join blank (givens c.args.grid.now)) (unit_closure (clauses_of c.args.technique.set)) = ap (λ x. answer_of x marks) (sym c.in-Decided.is) ∙ givens_computed c.args.technique.set c.args.grid.now c.close_givens-begun.ensures in
     let state : StateOk c.args.technique.set marks c.close_givens-begun.new.sums c.in-Decided.decided = closes_state c.close_givens-begun.ensures _ c.in-Decided.is in
     let a = c.args in
     c.passes.ensures.0
-    ∙ start_trials (clauses_of a.technique.set) a.ceiling a.technique.trials a.order.now (givens a.grid.now) marks is-closed (λ x. c.if-decided-eq729.false (state.count ∙ x)) c.if-technique.true
+    ∙ start_trials (clauses_of a.technique.set) a.ceiling a.technique.trials a.order.now (givens a.grid.now) marks is_closed (λ x. c.if-decided-eq729.false (state.count ∙ x)) c.if-technique.true
 
 pub returns-else-technique : goal.returns-else-technique
 returns-else-technique c =
     let marks : List ℕ = c.close_givens-begun.new.marks in
-    let is-closed : closed marks ≡ bind (join blank (givens c.args.grid.now)) (unit_closure (clauses_of c.args.technique.set)) = ap (λ x. answer_of x marks) (sym c.in-Decided.is) ∙ givens_computed c.args.technique.set c.args.grid.now c.close_givens-begun.ensures in
+    let is_closed : closed marks ≡ bind (join blank (givens c.args.grid.now)) (unit_closure (clauses_of c.args.technique.set)) = ap (λ x. answer_of x marks) (sym c.in-Decided.is) ∙ givens_computed c.args.technique.set c.args.grid.now c.close_givens-begun.ensures in
     let state : StateOk c.args.technique.set marks c.close_givens-begun.new.sums c.in-Decided.decided = closes_state c.close_givens-begun.ensures _ c.in-Decided.is in
     let a = c.args in
-    start_open (clauses_of a.technique.set) a.ceiling a.technique.trials a.order.now (givens a.grid.now) marks is-closed (λ x. c.if-decided-eq729.false (state.count ∙ x)) c.if-technique.false
+    start_open (clauses_of a.technique.set) a.ceiling a.technique.trials a.order.now (givens a.grid.now) marks is_closed (λ x. c.if-decided-eq729.false (state.count ∙ x)) c.if-technique.false

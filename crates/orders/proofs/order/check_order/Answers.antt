@@ -79,17 +79,17 @@ loop-i-preserved c =
     let fits : SFits w16 (entry o i) = record { sfits = omega arith } in
     let passes = is_tested (entry o i) fits _ c.is_literal.ensures ∙ c.if-not-is_literal.false in
     let h : Literal (entry o i) = literal (entry o i) fits _ c.is_literal.ensures c.if-not-is_literal.false in
-    let now-read = entry_read o i s.seen s.invariant.1 h _ (c.table_place-at.ensures ∙ ap table_place (read (entry o i) fits)) in (
+    let now_read = entry_read o i s.seen s.invariant.1 h _ (c.table_place-at.ensures ∙ ap table_place (read (entry o i) fits)) in (
       first_later no_literal o (pos 0) i s.invariant.0 (omega (arith, c.if-order-ne-ENTRIES.false)) (ap not passes),
-      now-read.more,
+      now_read.more,
       elim c.if-seen-at-eq0.branch [
         | then-seen-at-eq0 u ↦ elim c.if-here-repeat.branch [
           | then-here-repeat v ↦ absurd (omega (arith, u.here-is, v.if-here-repeat.true, s.invariant.2.most))
-          | else-here-repeat v ↦ rw v.repeat-is (scan_fails p s.invariant.2 (now-read.new u.if-seen-at-eq0.true))
+          | else-here-repeat v ↦ rw v.repeat-is (scan_fails p s.invariant.2 (now_read.new u.if-seen-at-eq0.true))
         ]
         | else-seen-at-eq0 u ↦ elim c.if-here-repeat.branch [
           | then-here-repeat v ↦ rw (v.repeat-is ∙ u.here-is)
-              (scan_first p s.invariant.2 c.loop-i-test.true (omega (arith, u.here-is, v.if-here-repeat.true)) (now-read.repeat u.if-seen-at-eq0.false))
+              (scan_first p s.invariant.2 c.loop-i-test.true (omega (arith, u.here-is, v.if-here-repeat.true)) (now_read.repeat u.if-seen-at-eq0.false))
           | else-here-repeat v ↦ rw v.repeat-is (scan_later p s.invariant.2 (omega (arith, u.here-is, v.if-here-repeat.false)))
         ]
       ],

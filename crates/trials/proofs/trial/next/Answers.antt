@@ -3,7 +3,6 @@ use mathlib.Core.Path.{◌≡◌, ap, sym, subst, ◌∙◌}
 use mathlib.Core.List.{List}
 use Prim.Native.Nat.{ℕ, ◌+◌, ◌<◌}
 use native.Mathlib.Omega.{arith}
-use borrow.Author.Rules.{rules}
 use lib.Dec.{T}
 use lib.IntN.{ℤ, neg_ℤ}
 use lib.ListN.{get_or}
@@ -14,7 +13,7 @@ use Rattle.clauses.proofs.Signed.{read}
 use Rattle.closure.specs.Marks.{is_decided, mark, decided}
 use Rattle.closure.specs.Propagation.{unit_closure}
 use Rattle.closure.specs.Job.{Step, Walk, after, try, step, walked, kept}
-use Rattle.worklist.proofs.Literals.{place_at, place_below, index_place, byte_open}
+use Rattle.worklist.proofs.Literals.{place_at, index_place, byte_open}
 use Rattle.trials.specs.Known.{Names, Named}
 use Rattle.trials.specs.Steps.{tried_of, TriedOk, Walking}
 use Rattle.trials.specs.declared.trial.Shown.{Shown}
@@ -31,8 +30,8 @@ pub returns-then-marks-at-ne0 : goal.returns-then-marks-at-ne0
 returns-then-marks-at-ne0 c =
     let marks : List ℕ = c.args.marks.now in
     let l : ℤ = c.args.literal in
-    let is-index : c.mark_index-at.result ≡ mark_index l = c.mark_index-at.ensures ∙ ap mark_index (read l c.ranges.literal) in
-    let is_place : c.mark_index-at.result ≡ place_at l = is-index ∙ index_place l c.requires.1 in
+    let is_index : c.mark_index-at.result ≡ mark_index l = c.mark_index-at.ensures ∙ ap mark_index (read l c.ranges.literal) in
+    let is_place : c.mark_index-at.result ≡ place_at l = is_index ∙ index_place l c.requires.1 in
     let t = byte_decided marks c.requires.0.state.marks.marks l c.requires.1 (λ e. c.if-marks-at-ne0.true (ap (λ x. get_or marks x 0) is_place ∙ e)) in
     (next_skip (clauses_of c.args.set) c.args.ceiling marks c.args.count l c.args.failed t, (c.requires.2, c.requires.0))
 
@@ -40,8 +39,8 @@ pub returns-then-count-ceiling : goal.returns-then-count-ceiling
 returns-then-count-ceiling c =
     let marks : List ℕ = c.args.marks.now in
     let l : ℤ = c.args.literal in
-    let is-index : c.mark_index-at.result ≡ mark_index l = c.mark_index-at.ensures ∙ ap mark_index (read l c.ranges.literal) in
-    let is_place : c.mark_index-at.result ≡ place_at l = is-index ∙ index_place l c.requires.1 in
+    let is_index : c.mark_index-at.result ≡ mark_index l = c.mark_index-at.ensures ∙ ap mark_index (read l c.ranges.literal) in
+    let is_place : c.mark_index-at.result ≡ place_at l = is_index ∙ index_place l c.requires.1 in
     let undecided : T (is_decided marks l) → ⊥ = byte_open marks l c.requires.1 (ap (λ x. get_or marks x 0) (sym is_place) ∙ c.if-marks-at-ne0.false) in
     (next_halt (clauses_of c.args.set) c.args.ceiling marks c.args.count l c.args.failed undecided (omega (arith, c.if-count-ceiling.true, c.requires.2)), c.requires.0.state.count)
 
@@ -51,13 +50,13 @@ returns-then-is_named c =
     let l : ℤ = c.args.literal in
     let Next : Walk = after (step (clauses_of c.args.set) c.args.ceiling marks c.args.count l) marks c.args.count c.args.failed (λ t k b. walked t k b) in
     let thereafter : Step → Walk = λ s. after s marks c.args.count c.args.failed (λ t k b. walked t k b) in
-    let is-index : c.mark_index-at.result ≡ mark_index l = c.mark_index-at.ensures ∙ ap mark_index (read l c.ranges.literal) in
-    let is_place : c.mark_index-at.result ≡ place_at l = is-index ∙ index_place l c.requires.1 in
+    let is_index : c.mark_index-at.result ≡ mark_index l = c.mark_index-at.ensures ∙ ap mark_index (read l c.ranges.literal) in
+    let is_place : c.mark_index-at.result ≡ place_at l = is_index ∙ index_place l c.requires.1 in
     let undecided : T (is_decided marks l) → ⊥ = byte_open marks l c.requires.1 (ap (λ x. get_or marks x 0) (sym is_place) ∙ c.if-marks-at-ne0.false) in
     let below : c.args.count < c.args.ceiling = omega (arith, c.requires.2, c.if-count-ceiling.false) in
     let shows : (s : Step) → s ≡ try (unit_closure (clauses_of c.args.set) (mark marks l)) (λ u. unit_closure (clauses_of c.args.set) (mark marks (neg_ℤ l))) → thereafter s ≡ Next = λ s e. next_tried (clauses_of c.args.set) c.args.ceiling marks c.args.count l c.args.failed undecided (λ q. omega (arith, below, q)) s e in
     let named : Named c.args.known.now l =
-    subst (λ p. Names (get_or c.args.known.now p 0) l) is-index (subst (Names (get_or c.args.known.now c.mark_index-at.result 0)) (read l c.ranges.literal) (c.is_named.ensures c.if-is_named.true)) in (
+    subst (λ p. Names (get_or c.args.known.now p 0) l) is_index (subst (Names (get_or c.args.known.now c.mark_index-at.result 0)) (read l c.ranges.literal) (c.is_named.ensures c.if-is_named.true)) in (
       shows kept (known_kept c.args.set marks l c.requires.1 undecided (c.requires.0.known.succeeds l c.requires.1 named) (λ u. unit_closure (clauses_of c.args.set) (mark marks (neg_ℤ l)))),
       (omega (arith, below), c.requires.0),
     )
@@ -66,8 +65,8 @@ pub attempt-shown-requires : goal.attempt-shown-requires
 attempt-shown-requires c =
     let marks : List ℕ = c.args.marks.now in
     let l : ℤ = c.args.literal in
-    let is-index : c.mark_index-at.result ≡ mark_index l = c.mark_index-at.ensures ∙ ap mark_index (read l c.ranges.literal) in
-    let is_place : c.mark_index-at.result ≡ place_at l = is-index ∙ index_place l c.requires.1 in
+    let is_index : c.mark_index-at.result ≡ mark_index l = c.mark_index-at.ensures ∙ ap mark_index (read l c.ranges.literal) in
+    let is_place : c.mark_index-at.result ≡ place_at l = is_index ∙ index_place l c.requires.1 in
     let undecided : T (is_decided marks l) → ⊥ = byte_open marks l c.requires.1 (ap (λ x. get_or marks x 0) (sym is_place) ∙ c.if-marks-at-ne0.false) in
     let r = read l c.ranges.literal in
     (c.requires.0.state, c.requires.0.known, subst Literal (sym r) c.requires.1, subst (λ x. T (is_decided marks x) → ⊥) (sym r) undecided)
@@ -78,8 +77,8 @@ returns-then-more-eq729 c =
     let l : ℤ = c.args.literal in
     let Next : Walk = after (step (clauses_of c.args.set) c.args.ceiling marks c.args.count l) marks c.args.count c.args.failed (λ t k b. walked t k b) in
     let thereafter : Step → Walk = λ s. after s marks c.args.count c.args.failed (λ t k b. walked t k b) in
-    let is-index : c.mark_index-at.result ≡ mark_index l = c.mark_index-at.ensures ∙ ap mark_index (read l c.ranges.literal) in
-    let is_place : c.mark_index-at.result ≡ place_at l = is-index ∙ index_place l c.requires.1 in
+    let is_index : c.mark_index-at.result ≡ mark_index l = c.mark_index-at.ensures ∙ ap mark_index (read l c.ranges.literal) in
+    let is_place : c.mark_index-at.result ≡ place_at l = is_index ∙ index_place l c.requires.1 in
     let undecided : T (is_decided marks l) → ⊥ = byte_open marks l c.requires.1 (ap (λ x. get_or marks x 0) (sym is_place) ∙ c.if-marks-at-ne0.false) in
     let below : c.args.count < c.args.ceiling = omega (arith, c.requires.2, c.if-count-ceiling.false) in
     let shows : (s : Step) → s ≡ try (unit_closure (clauses_of c.args.set) (mark marks l)) (λ u. unit_closure (clauses_of c.args.set) (mark marks (neg_ℤ l))) → thereafter s ≡ Next = λ s e. next_tried (clauses_of c.args.set) c.args.ceiling marks c.args.count l c.args.failed undecided (λ q. omega (arith, below, q)) s e in
@@ -99,8 +98,8 @@ returns-in-Kept c =
     let l : ℤ = c.args.literal in
     let Next : Walk = after (step (clauses_of c.args.set) c.args.ceiling marks c.args.count l) marks c.args.count c.args.failed (λ t k b. walked t k b) in
     let thereafter : Step → Walk = λ s. after s marks c.args.count c.args.failed (λ t k b. walked t k b) in
-    let is-index : c.mark_index-at.result ≡ mark_index l = c.mark_index-at.ensures ∙ ap mark_index (read l c.ranges.literal) in
-    let is_place : c.mark_index-at.result ≡ place_at l = is-index ∙ index_place l c.requires.1 in
+    let is_index : c.mark_index-at.result ≡ mark_index l = c.mark_index-at.ensures ∙ ap mark_index (read l c.ranges.literal) in
+    let is_place : c.mark_index-at.result ≡ place_at l = is_index ∙ index_place l c.requires.1 in
     let undecided : T (is_decided marks l) → ⊥ = byte_open marks l c.requires.1 (ap (λ x. get_or marks x 0) (sym is_place) ∙ c.if-marks-at-ne0.false) in
     let below : c.args.count < c.args.ceiling = omega (arith, c.requires.2, c.if-count-ceiling.false) in
     let shows : (s : Step) → s ≡ try (unit_closure (clauses_of c.args.set) (mark marks l)) (λ u. unit_closure (clauses_of c.args.set) (mark marks (neg_ℤ l))) → thereafter s ≡ Next = λ s e. next_tried (clauses_of c.args.set) c.args.ceiling marks c.args.count l c.args.failed undecided (λ q. omega (arith, below, q)) s e in
@@ -123,8 +122,8 @@ returns-in-Broken c =
     let l : ℤ = c.args.literal in
     let Next : Walk = after (step (clauses_of c.args.set) c.args.ceiling marks c.args.count l) marks c.args.count c.args.failed (λ t k b. walked t k b) in
     let thereafter : Step → Walk = λ s. after s marks c.args.count c.args.failed (λ t k b. walked t k b) in
-    let is-index : c.mark_index-at.result ≡ mark_index l = c.mark_index-at.ensures ∙ ap mark_index (read l c.ranges.literal) in
-    let is_place : c.mark_index-at.result ≡ place_at l = is-index ∙ index_place l c.requires.1 in
+    let is_index : c.mark_index-at.result ≡ mark_index l = c.mark_index-at.ensures ∙ ap mark_index (read l c.ranges.literal) in
+    let is_place : c.mark_index-at.result ≡ place_at l = is_index ∙ index_place l c.requires.1 in
     let undecided : T (is_decided marks l) → ⊥ = byte_open marks l c.requires.1 (ap (λ x. get_or marks x 0) (sym is_place) ∙ c.if-marks-at-ne0.false) in
     let below : c.args.count < c.args.ceiling = omega (arith, c.requires.2, c.if-count-ceiling.false) in
     let shows : (s : Step) → s ≡ try (unit_closure (clauses_of c.args.set) (mark marks l)) (λ u. unit_closure (clauses_of c.args.set) (mark marks (neg_ℤ l))) → thereafter s ≡ Next = λ s e. next_tried (clauses_of c.args.set) c.args.ceiling marks c.args.count l c.args.failed undecided (λ q. omega (arith, below, q)) s e in
@@ -141,8 +140,8 @@ returns-else-more-eq729 c =
     let l : ℤ = c.args.literal in
     let Next : Walk = after (step (clauses_of c.args.set) c.args.ceiling marks c.args.count l) marks c.args.count c.args.failed (λ t k b. walked t k b) in
     let thereafter : Step → Walk = λ s. after s marks c.args.count c.args.failed (λ t k b. walked t k b) in
-    let is-index : c.mark_index-at.result ≡ mark_index l = c.mark_index-at.ensures ∙ ap mark_index (read l c.ranges.literal) in
-    let is_place : c.mark_index-at.result ≡ place_at l = is-index ∙ index_place l c.requires.1 in
+    let is_index : c.mark_index-at.result ≡ mark_index l = c.mark_index-at.ensures ∙ ap mark_index (read l c.ranges.literal) in
+    let is_place : c.mark_index-at.result ≡ place_at l = is_index ∙ index_place l c.requires.1 in
     let undecided : T (is_decided marks l) → ⊥ = byte_open marks l c.requires.1 (ap (λ x. get_or marks x 0) (sym is_place) ∙ c.if-marks-at-ne0.false) in
     let below : c.args.count < c.args.ceiling = omega (arith, c.requires.2, c.if-count-ceiling.false) in
     let shows : (s : Step) → s ≡ try (unit_closure (clauses_of c.args.set) (mark marks l)) (λ u. unit_closure (clauses_of c.args.set) (mark marks (neg_ℤ l))) → thereafter s ≡ Next = λ s e. next_tried (clauses_of c.args.set) c.args.ceiling marks c.args.count l c.args.failed undecided (λ q. omega (arith, below, q)) s e in

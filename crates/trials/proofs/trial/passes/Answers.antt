@@ -1,12 +1,11 @@
 -- What is left of the passes goes on from the state that has been reached.
 use mathlib.Core.Path.{◌≡◌, refl, ap, sym, subst, ◌∙◌}
-use mathlib.Core.Bool.{Bool, true, false, not}
-use Prim.Native.Nat.{ℕ, ◌-◌, ◌≤◌}
+use mathlib.Core.Bool.{Bool, true, false}
+use Prim.Native.Nat.{ℕ, ◌-◌}
 use native.Mathlib.Omega.{arith}
-use borrow.Author.Rules.{rules}
 use Rattle.clauses.specs.Clauses.{clauses_of}
 use Rattle.closure.specs.Job.{next_pass, passes}
-use Rattle.trials.specs.Steps.{walk_of, Walking, PassOk}
+use Rattle.trials.specs.Steps.{walk_of, PassOk}
 use Rattle.trials.specs.declared.trial.Pass.{Pass}
 use Rattle.trials.specs.declared.trial.Pass.TheVariants.{Walked}
 use Rattle.trials.proofs.Knowing.{possible_known}

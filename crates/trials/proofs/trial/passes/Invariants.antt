@@ -1,16 +1,9 @@
 -- What is left of the passes goes on from the state that has been reached.
-use mathlib.Core.Path.{◌≡◌, refl, ap, sym, subst, ◌∙◌}
-use mathlib.Core.Bool.{Bool, true, false, not}
-use Prim.Native.Nat.{◌-◌, ◌≤◌}
-use native.Mathlib.Omega.{arith}
-use borrow.Author.Rules.{rules}
+use mathlib.Core.Path.{◌≡◌}
+use Prim.Native.Nat.{◌≤◌}
 use Rattle.clauses.specs.Clauses.{clauses_of}
-use Rattle.closure.specs.Job.{next_pass, passes}
-use Rattle.trials.specs.Steps.{walk_of, Walking, PassOk}
-use Rattle.trials.specs.declared.trial.Pass.{Pass}
-use Rattle.trials.specs.declared.trial.Pass.TheVariants.{Walked}
-use Rattle.trials.proofs.Knowing.{possible_known}
-use Rattle.trials.proofs.Walking.{passes_next, passes_end}
+use Rattle.closure.specs.Job.{passes}
+use Rattle.trials.specs.Steps.{Walking}
 use Rattle.trials.proofs.trial.passes.Given as goal
 
 abbrev pub invariant-loop-left : goal.invariant-loop-left

@@ -1,19 +1,17 @@
 -- What is left of the order is walked from the state that has been reached.
-use mathlib.Core.Path.{◌≡◌, refl, ap, sym, subst, ◌∙◌}
+use mathlib.Core.Path.{◌≡◌, ap, sym, subst, ◌∙◌}
 use mathlib.Core.Bool.{false}
 use mathlib.Core.List.{List}
-use Prim.Native.Nat.{ℕ, ◌+◌, ◌-◌, ◌≤◌}
+use Prim.Native.Nat.{ℕ, ◌+◌}
 use native.Mathlib.Omega.{arith}
-use borrow.Author.Rules.{rules}
 use lib.IntN.{ℤ, pos}
-use lib.ListN.{length, get_or}
+use lib.ListN.{get_or}
 use mir.Syntax.{w16}
 use mir.Val.{to_z, of_z}
 use Rattle.clauses.specs.Clauses.{clauses_of}
-use Rattle.clauses.specs.Literal.{Literal}
 use Rattle.clauses.proofs.Signed.{read}
 use Rattle.closure.specs.Job.{after, step, walked}
-use Rattle.trials.specs.Steps.{walk_of, Walking, PassOk}
+use Rattle.trials.specs.Steps.{walk_of, PassOk}
 use Rattle.trials.specs.declared.trial.Pass.{Pass}
 use Rattle.trials.proofs.Walking.{onward, rest, rest_next, rest_end}
 use Rattle.trials.proofs.trial.walk.Goals as goal

@@ -20,25 +20,25 @@ loop-i-init c =
 
 pub weigh-n-requires : goal.weigh-n-requires
 weigh-n-requires c =
-    let is-slot : c.slot_at.result ≡ slot_at (kind_at c.loop-i.i) c.args.p = c.slot_at.ensures ∙ ap (λ f. slot_at f c.args.p) c.kind_at.ensures in
-    let is_clause : c.clause_at.result ≡ clause_in c.slot_at.result = c.clause_at.ensures ∙ ap (λ f. clause_in (slot_at f c.args.p)) c.kind_at-in-loop-i.ensures ∙ ap clause_in (sym is-slot) in
+    let is_slot : c.slot_at.result ≡ slot_at (kind_at c.loop-i.i) c.args.p = c.slot_at.ensures ∙ ap (λ f. slot_at f c.args.p) c.kind_at.ensures in
+    let is_clause : c.clause_at.result ≡ clause_in c.slot_at.result = c.clause_at.ensures ∙ ap (λ f. clause_in (slot_at f c.args.p)) c.kind_at-in-loop-i.ensures ∙ ap clause_in (sym is_slot) in
     let four : c.nine_kinds-kinds.result ≤ 4 = omega (arith, c.nine_kinds-kinds.ensures, nines_below c.args.set) in
     let l = c.loop-i in
     let a = c.args in (
-      subst (λ x. Weighable l.sums l.n x a.p) (sym is-slot)
+      subst (λ x. Weighable l.sums l.n x a.p) (sym is_slot)
           (weighable c.nine_kinds-kinds.result l.i a.p a.mark a.marks.now l.sums l.list l.n four c.loop-i-test.true c.requires.0.marks c.requires.1 c.requires.2 l.invariant.1),
       is_clause,
     )
 
 pub loop-i-preserved : goal.loop-i-preserved
 loop-i-preserved c =
-    let is-slot : c.slot_at.result ≡ slot_at (kind_at c.loop-i.i) c.args.p = c.slot_at.ensures ∙ ap (λ f. slot_at f c.args.p) c.kind_at.ensures in
+    let is_slot : c.slot_at.result ≡ slot_at (kind_at c.loop-i.i) c.args.p = c.slot_at.ensures ∙ ap (λ f. slot_at f c.args.p) c.kind_at.ensures in
     let four : c.nine_kinds-kinds.result ≤ 4 = omega (arith, c.nine_kinds-kinds.ensures, nines_below c.args.set) in
     let l = c.loop-i in
     let a = c.args in (
       omega (arith, c.loop-i-test.true),
       weighing_next c.nine_kinds-kinds.result l.i a.p a.mark a.marks.now l.sums l.list l.n four c.loop-i-test.true c.requires.0.marks c.requires.1 c.requires.2 l.invariant.1
-          (subst (λ x. Weighed l.sums l.list l.n x a.p a.mark c.weigh-n.new.sums c.weigh-n.new.list c.weigh-n.result) is-slot c.weigh-n.ensures),
+          (subst (λ x. Weighed l.sums l.list l.n x a.p a.mark c.weigh-n.new.sums c.weigh-n.new.list c.weigh-n.result) is_slot c.weigh-n.ensures),
     )
 
 pub returns : goal.returns

@@ -28,14 +28,14 @@ loop-k-preserved c =
     let along : place_along c.line_of-line.result k ≡ place_of (group_at (kind_at c.args.i) c.args.p) k = c.line_of-line.ensures k nine ∙ ap (λ f. place_of (group_at f c.args.p) k) c.kind_at.ensures in
     let room : c.loop-k.n < 36 = omega (arith, c.loop-k.invariant.2, nine, c.requires.0.0) in
     let is_row : c.row_at-row.result ≡ row_at (kind_at c.args.i) c.args.p = c.row_at-row.ensures ∙ ap (λ f. row_at f c.args.p) c.kind_at-2.ensures in
-    let is-first : c.first_number-first.result ≡ first_number (kind_at c.args.i) c.args.p (k / 3) = let a = c.args in
+    let is_first : c.first_number-first.result ≡ first_number (kind_at c.args.i) c.args.p (k / 3) = let a = c.args in
     let l = c.loop-k.invariant in
     c.first_number-first.ensures ∙ ap (λ f. first_number f a.p (a.from / 3)) c.kind_at-3.ensures ∙ first_same a.i a.p a.from a.to c.requires.0 k l.0 c.loop-k-test.true in
     let i : ℕ = c.args.i in
     let p : ℕ = c.args.p in
     let is_place : c.place_in-q.result ≡ place_of (group_at (kind_at i) p) k = c.place_in-q.ensures ∙ along in
-    let is-entry : c.byte.result ≡ get_or pair_table (row_at (kind_at i) p + k) 0 = c.byte.ensures ∙ ap (λ t. get_or t (c.row_at-row.result + k) 0) c.requires.4 ∙ ap (λ r. get_or pair_table (r + k) 0) is_row in
-    let is_number : c.first_number-first.result + c.byte.result ≡ pair_number (kind_at i) p k = ap (λ x. x + c.byte.result) is-first ∙ ap (λ x. first_number (kind_at i) p (k / 3) + x) is-entry in
+    let is_entry : c.byte.result ≡ get_or pair_table (row_at (kind_at i) p + k) 0 = c.byte.ensures ∙ ap (λ t. get_or t (c.row_at-row.result + k) 0) c.requires.4 ∙ ap (λ r. get_or pair_table (r + k) 0) is_row in
+    let is_number : c.first_number-first.result + c.byte.result ≡ pair_number (kind_at i) p k = ap (λ x. x + c.byte.result) is_first ∙ ap (λ x. first_number (kind_at i) p (k / 3) + x) is_entry in
     let l = c.loop-k in
     let a = c.args in
     let o : ((get_or a.marks.now c.place_in-q.result 0 ≡ 0) × (c.if-marks-q-eq0.n ≡ l.n + 1)) ⊎ ((get_or a.marks.now c.place_in-q.result 0 ≡ 0 → ⊥) × (c.if-marks-q-eq0.n ≡ l.n)) =
@@ -86,13 +86,13 @@ overflow_add-number c =
     let k : ℕ = c.loop-k.k in
     let nine : k < 9 = omega (arith, c.loop-k-test.true, c.requires.0.2) in
     let is_row : c.row_at-row.result ≡ row_at (kind_at c.args.i) c.args.p = c.row_at-row.ensures ∙ ap (λ f. row_at f c.args.p) c.kind_at-2.ensures in
-    let is-first : c.first_number-first.result ≡ first_number (kind_at c.args.i) c.args.p (k / 3) = let a = c.args in
+    let is_first : c.first_number-first.result ≡ first_number (kind_at c.args.i) c.args.p (k / 3) = let a = c.args in
     let l = c.loop-k.invariant in
     c.first_number-first.ensures ∙ ap (λ f. first_number f a.p (a.from / 3)) c.kind_at-3.ensures ∙ first_same a.i a.p a.from a.to c.requires.0 k l.0 c.loop-k-test.true in
     let i : ℕ = c.args.i in
     let p : ℕ = c.args.p in
-    let is-entry : c.byte.result ≡ get_or pair_table (row_at (kind_at i) p + k) 0 = c.byte.ensures ∙ ap (λ t. get_or t (c.row_at-row.result + k) 0) c.requires.4 ∙ ap (λ r. get_or pair_table (r + k) 0) is_row in
-    let is_number : c.first_number-first.result + c.byte.result ≡ pair_number (kind_at i) p k = ap (λ x. x + c.byte.result) is-first ∙ ap (λ x. first_number (kind_at i) p (k / 3) + x) is-entry in
+    let is_entry : c.byte.result ≡ get_or pair_table (row_at (kind_at i) p + k) 0 = c.byte.ensures ∙ ap (λ t. get_or t (c.row_at-row.result + k) 0) c.requires.4 ∙ ap (λ r. get_or pair_table (r + k) 0) is_row in
+    let is_number : c.first_number-first.result + c.byte.result ≡ pair_number (kind_at i) p k = ap (λ x. x + c.byte.result) is_first ∙ ap (λ x. first_number (kind_at i) p (k / 3) + x) is_entry in
     let fits : c.first_number-first.result + c.byte.result < 65536 = omega (arith, is_number, number_small p c.requires.1 (kind_at i) (k / 3) k nine) in
     omega (arith, fits)
 
@@ -101,13 +101,13 @@ overflow_cast-list c =
     let k : ℕ = c.loop-k.k in
     let nine : k < 9 = omega (arith, c.loop-k-test.true, c.requires.0.2) in
     let is_row : c.row_at-row.result ≡ row_at (kind_at c.args.i) c.args.p = c.row_at-row.ensures ∙ ap (λ f. row_at f c.args.p) c.kind_at-2.ensures in
-    let is-first : c.first_number-first.result ≡ first_number (kind_at c.args.i) c.args.p (k / 3) = let a = c.args in
+    let is_first : c.first_number-first.result ≡ first_number (kind_at c.args.i) c.args.p (k / 3) = let a = c.args in
     let l = c.loop-k.invariant in
     c.first_number-first.ensures ∙ ap (λ f. first_number f a.p (a.from / 3)) c.kind_at-3.ensures ∙ first_same a.i a.p a.from a.to c.requires.0 k l.0 c.loop-k-test.true in
     let i : ℕ = c.args.i in
     let p : ℕ = c.args.p in
-    let is-entry : c.byte.result ≡ get_or pair_table (row_at (kind_at i) p + k) 0 = c.byte.ensures ∙ ap (λ t. get_or t (c.row_at-row.result + k) 0) c.requires.4 ∙ ap (λ r. get_or pair_table (r + k) 0) is_row in
-    let is_number : c.first_number-first.result + c.byte.result ≡ pair_number (kind_at i) p k = ap (λ x. x + c.byte.result) is-first ∙ ap (λ x. first_number (kind_at i) p (k / 3) + x) is-entry in
+    let is_entry : c.byte.result ≡ get_or pair_table (row_at (kind_at i) p + k) 0 = c.byte.ensures ∙ ap (λ t. get_or t (c.row_at-row.result + k) 0) c.requires.4 ∙ ap (λ r. get_or pair_table (r + k) 0) is_row in
+    let is_number : c.first_number-first.result + c.byte.result ≡ pair_number (kind_at i) p k = ap (λ x. x + c.byte.result) is_first ∙ ap (λ x. first_number (kind_at i) p (k / 3) + x) is_entry in
     let fits : c.first_number-first.result + c.byte.result < 65536 = omega (arith, is_number, number_small p c.requires.1 (kind_at i) (k / 3) k nine) in
     omega (arith, fits)
 
