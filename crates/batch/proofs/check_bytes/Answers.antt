@@ -1,6 +1,5 @@
 -- The place of the first byte of no meaning is compared with the length.
 use mathlib.Core.Path.{refl}
-use borrow.Author.Rules.{rules}
 use borrow.Author.Tests.{lt-ltb, le-ltb}
 use lib.ListN.{length}
 use Rattle.batch.specs.Call.{bytes_check}

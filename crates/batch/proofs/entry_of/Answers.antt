@@ -1,7 +1,6 @@
 -- Each case of the end names its number, and its count.
 use mathlib.Core.Path.{◌≡◌, refl}
 use Prim.Native.Nat.{ℕ}
-use borrow.Author.Rules.{rules}
 use Rattle.trials.specs.declared.trial.End.{End}
 use Rattle.batch.specs.Parts.{Told}
 use Rattle.batch.proofs.entry_of.Goals as goal

@@ -1,12 +1,10 @@
 -- The parts before the i-th are filled; the i-th job fills its own.
-use mathlib.Core.Path.{◌≡◌, sym, ◌∙◌}
-use Prim.Native.Nat.{◌+◌, ◌*◌, ◌-◌, ◌≤◌}
+use Prim.Native.Nat.{◌+◌, ◌≤◌}
 use native.Mathlib.Omega.{arith}
-use borrow.Author.Rules.{rules}
 use lib.ListN.{length, length-take, length-drop}
 use Rattle.batch.specs.Call.{grids_in}
 use Rattle.batch.proofs.Jobs.{sum_is}
-use Rattle.batch.proofs.Rows.{Underway, none_done, marks_length, numbers_length, one_more, all_done}
+use Rattle.batch.proofs.Rows.{none_done, marks_length, numbers_length, one_more, all_done}
 use Rattle.batch.proofs.run_each.Goals as goal
 
 pub loop-i-init : goal.loop-i-init

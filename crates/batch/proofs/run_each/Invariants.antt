@@ -1,12 +1,8 @@
 -- The parts before the i-th are filled; the i-th job fills its own.
-use mathlib.Core.Path.{◌≡◌, sym, ◌∙◌}
-use Prim.Native.Nat.{◌+◌, ◌*◌, ◌-◌, ◌≤◌}
-use native.Mathlib.Omega.{arith}
-use borrow.Author.Rules.{rules}
-use lib.ListN.{length, length-take, length-drop}
-use Rattle.batch.specs.Call.{grids_in}
-use Rattle.batch.proofs.Jobs.{sum_is}
-use Rattle.batch.proofs.Rows.{Underway, none_done, marks_length, numbers_length, one_more, all_done}
+use mathlib.Core.Path.{◌≡◌}
+use Prim.Native.Nat.{◌*◌, ◌-◌, ◌≤◌}
+use lib.ListN.{length}
+use Rattle.batch.proofs.Rows.{Underway}
 use Rattle.batch.proofs.run_each.Given as goal
 
 abbrev pub invariant-loop-i : goal.invariant-loop-i

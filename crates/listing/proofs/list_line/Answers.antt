@@ -2,7 +2,6 @@
 use mathlib.Core.Path.{◌≡◌, ap, ◌∙◌}
 use lib.ListN.{length}
 use Rattle.orders.specs.Order.{default_order, default_ceiling}
-use borrow.Author.Rules.{rules}
 use Rattle.exploration.specs.Search.{zeros}
 use Rattle.grading.specs.Grade.{grade_call}
 use Rattle.listing.specs.Listing.{shown, listed, put}

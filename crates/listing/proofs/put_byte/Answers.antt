@@ -1,6 +1,5 @@
 -- One byte is written.
 use mathlib.Core.Path.{refl}
-use borrow.Author.Rules.{rules}
 use Rattle.listing.specs.Listing.{put}
 use Rattle.listing.proofs.put_byte.Goals as goal
 

@@ -2,7 +2,6 @@
 use mathlib.Core.Path.{ap, ◌∙◌}
 use Prim.Native.Nat.{◌≤◌}
 use native.Mathlib.Omega.{arith}
-use borrow.Author.Rules.{rules}
 use lib.ListN.{length}
 use Rattle.listing.specs.Listing.{decimal}
 use Rattle.listing.proofs.Decimal.{decimal_short, put_long, field_long, put_field}

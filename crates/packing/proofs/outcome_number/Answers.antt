@@ -1,6 +1,5 @@
 -- 01's number of each outcome.
 use mathlib.Core.Path.{refl}
-use borrow.Author.Rules.{rules}
 use Rattle.inference.specs.Call.{outcome_number}
 use Rattle.packing.proofs.Packing.{by_case}
 use Rattle.packing.proofs.outcome_number.Goals as goal

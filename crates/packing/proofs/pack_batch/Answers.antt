@@ -1,7 +1,6 @@
 -- A case for each answer.
 use mathlib.Core.Path.{refl}
 use Rattle.packing.specs.Packed.{packed_batch}
-use borrow.Author.Rules.{rules}
 use Rattle.packing.proofs.Packing.{by_case}
 use Rattle.packing.proofs.pack_batch.Goals as goal
 

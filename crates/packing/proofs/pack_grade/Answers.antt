@@ -1,6 +1,5 @@
 -- A case for each answer.
 use Rattle.packing.specs.Packed.{packed_grade}
-use borrow.Author.Rules.{rules}
 use Rattle.packing.proofs.Packing.{by_case}
 use Rattle.packing.proofs.pack_grade.Goals as goal
 

@@ -1,7 +1,6 @@
 -- A case for each answer.
 use mathlib.Core.Path.{ap, ◌∙◌}
 use Rattle.packing.specs.Packed.{packed_counted, packed_job}
-use borrow.Author.Rules.{rules}
 use Rattle.packing.proofs.Packing.{by_case}
 use Rattle.packing.proofs.pack_job.Goals as goal
 
