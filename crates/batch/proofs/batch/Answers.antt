@@ -69,8 +69,8 @@ run_each-requires c =
     let m : List ℕ = c.args.marks.now in
     let a : List ℕ = c.args.answers.now in
     let lent_ok : c.check_lent-lent.result ≡ check.Accepted = c.in-Accepted.is in
-    let order-ok : check.Accepted ≡ order_check o = sym c.in-Accepted-ordered.is ∙ c.check_order-ordered.ensures in
-    let w = accepted_order o (sym order-ok) in
+    let order_ok : check.Accepted ≡ order_check o = sym c.in-Accepted-ordered.is ∙ c.check_order-ordered.ensures in
+    let w = accepted_order o (sym order_ok) in
     (lent_accepted (length g) (length m) (length a) (sym c.check_lent-lent.ensures ∙ lent_ok), λ i h. w.1 i (omega (arith, h, w.0)))
 
 pub returns-in-Accepted-ordered : goal.returns-in-Accepted-ordered
@@ -84,5 +84,5 @@ returns-in-Accepted-ordered c =
     let lent_ok : c.check_lent-lent.result ≡ check.Accepted = c.in-Accepted.is in
     let bytes_ok : check.Accepted ≡ bytes_check g = sym c.in-Accepted-keyed.is ∙ c.check_bytes-keyed.ensures in
     let known : Known c.in-Known.known ≡ technique_of c.args.technique = sym c.in-Known.is ∙ c.numbered-named.ensures in
-    let order-ok : check.Accepted ≡ order_check o = sym c.in-Accepted-ordered.is ∙ c.check_order-ordered.ensures in
-    ran_filled _ _ _ c.run_each.ensures ∙ passed check.Accepted check.Accepted (Known c.in-Known.known) check.Accepted lent_ok bytes_ok known order-ok
+    let order_ok : check.Accepted ≡ order_check o = sym c.in-Accepted-ordered.is ∙ c.check_order-ordered.ensures in
+    ran_filled _ _ _ c.run_each.ensures ∙ passed check.Accepted check.Accepted (Known c.in-Known.known) check.Accepted lent_ok bytes_ok known order_ok

@@ -16,29 +16,29 @@ returns-then-not-is_batch c =
 pub overflow_mul-grids : goal.overflow_mul-grids
 overflow_mul-grids c =
     let bytes : ℕ = c.args.bytes in
-    let is-batch : is_batch bytes ≡ true = sym c.is_batch.ensures ∙ c.if-not-is_batch.false in
-    omega (arith, (batch_bytes bytes is-batch).few)
+    let tested : is_batch bytes ≡ true = sym c.is_batch.ensures ∙ c.if-not-is_batch.false in
+    omega (arith, (batch_bytes bytes tested).few)
 
 pub returns-then-marks-grids : goal.returns-then-marks-grids
 unfolding lent_check
 returns-then-marks-grids c =
     let bytes : ℕ = c.args.bytes in
-    let is-batch : is_batch bytes ≡ true = sym c.is_batch.ensures ∙ c.if-not-is_batch.false in
+    let tested : is_batch bytes ≡ true = sym c.is_batch.ensures ∙ c.if-not-is_batch.false in
     let a = c.args in
-    rw (is-batch, ne_eqb a.marks (729 * grids_in a.bytes) c.if-marks-grids.true) c.refused-then-marks-grids.ensures
+    rw (tested, ne_eqb a.marks (729 * grids_in a.bytes) c.if-marks-grids.true) c.refused-then-marks-grids.ensures
 
 pub returns-then-numbers-grids : goal.returns-then-numbers-grids
 unfolding lent_check
 returns-then-numbers-grids c =
     let bytes : ℕ = c.args.bytes in
-    let is-batch : is_batch bytes ≡ true = sym c.is_batch.ensures ∙ c.if-not-is_batch.false in
+    let tested : is_batch bytes ≡ true = sym c.is_batch.ensures ∙ c.if-not-is_batch.false in
     let a = c.args in
-    rw (is-batch, eq-eqb a.marks (729 * grids_in a.bytes) c.if-marks-grids.false, ne_eqb a.numbers (2 * grids_in a.bytes) c.if-numbers-grids.true) c.refused-then-numbers-grids.ensures
+    rw (tested, eq-eqb a.marks (729 * grids_in a.bytes) c.if-marks-grids.false, ne_eqb a.numbers (2 * grids_in a.bytes) c.if-numbers-grids.true) c.refused-then-numbers-grids.ensures
 
 pub returns : goal.returns
 unfolding lent_check
 returns c =
     let bytes : ℕ = c.args.bytes in
-    let is-batch : is_batch bytes ≡ true = sym c.is_batch.ensures ∙ c.if-not-is_batch.false in
+    let tested : is_batch bytes ≡ true = sym c.is_batch.ensures ∙ c.if-not-is_batch.false in
     let a = c.args in
-    rw (is-batch, eq-eqb a.marks (729 * grids_in a.bytes) c.if-marks-grids.false, eq-eqb a.numbers (2 * grids_in a.bytes) c.if-numbers-grids.false)
+    rw (tested, eq-eqb a.marks (729 * grids_in a.bytes) c.if-marks-grids.false, eq-eqb a.numbers (2 * grids_in a.bytes) c.if-numbers-grids.false)

@@ -39,8 +39,8 @@ pub rate-requires : goal.rate-requires
 rate-requires c =
     let g : List ℕ = c.args.grid.now in
     let o : List ℤ = c.args.order.now in
-    let order-ok : check.Accepted ≡ order_check o = sym c.in-Accepted-ordered.is ∙ c.check_order-ordered.ensures in
-    let w = accepted_order o (sym order-ok) in
+    let order_ok : check.Accepted ≡ order_check o = sym c.in-Accepted-ordered.is ∙ c.check_order-ordered.ensures in
+    let w = accepted_order o (sym order_ok) in
     (accepted_long g (sym c.check_grid-keyed.ensures ∙ c.in-Accepted.is), λ i h. w.1 i (omega (arith, h, w.0)), c.if-completion-ne81.false)
 
 pub returns-in-Accepted-ordered : goal.returns-in-Accepted-ordered
@@ -50,5 +50,5 @@ returns-in-Accepted-ordered c =
     let b : List ℕ = c.args.completion.now in
     let passed : (x z : Checked) → c.check_grid-keyed.result ≡ x → z ≡ order_check o
     → on_accepted x (refused b) (λ u. on_accepted z (refused b) λ w. grade_of g o c.args.ceiling) ≡ grade_call g o c.args.ceiling b = λ x z e f. call_checked g o c.args.ceiling b c.if-completion-ne81.false x z (sym e ∙ c.check_grid-keyed.ensures) f in
-    let order-ok : check.Accepted ≡ order_check o = sym c.in-Accepted-ordered.is ∙ c.check_order-ordered.ensures in
-    c.rate.ensures ∙ passed check.Accepted check.Accepted c.in-Accepted.is order-ok
+    let order_ok : check.Accepted ≡ order_check o = sym c.in-Accepted-ordered.is ∙ c.check_order-ordered.ensures in
+    c.rate.ensures ∙ passed check.Accepted check.Accepted c.in-Accepted.is order_ok
