@@ -1,6 +1,6 @@
 -- Literals as places and bytes of marks.
 -- Assumes nothing.
-use mathlib.Core.Path.{◌≡◌}
+use mathlib.Core.Path.{ap, ◌∙◌, ◌≡◌}
 use mathlib.Core.Logic.{inl, inr, ⊎_elim, ◌↔◌}
 use mathlib.Core.List.{List}
 use Prim.Native.Nat.{ℕ, zero, suc, ◌<◌}
@@ -34,6 +34,10 @@ pub index_place : (l : ℤ) → Literal l → mark_index l ≡ place_at l
 index_place (pos zero) v = absurd v
 index_place (pos (suc k)) v = omega arith
 index_place (negsuc k) v = omega arith
+
+-- the place that the code finds by a literal as it reads it
+pub place_read : {p : ℕ} {l l' : ℤ} → p ≡ mark_index l' → l' ≡ l → Literal l → p ≡ place_at l
+place_read e q lit = e ∙ ap mark_index q ∙ index_place _ lit
 
 pub mark_set : (m : List ℕ) (l : ℤ) → Literal l → length m ≡ 729 → mark m l ≡ set m (place_at l) (byte_of l)
 unfolding mark

@@ -38,19 +38,13 @@ module _ (grid : List ℕ) (order : List ℤ) (ceiling i n : ℕ) (stage : Stage
 
 pub returns-in-Solved : goal.returns-in-Solved
 returns-in-Solved c =
-    let a = c.args in
-    let l = c.loop-i in
-    let s = c.stage_at-stage in
-    let e = c.run_with-ended in
-    went a.grid.now a.order.now a.ceiling l.i l.trials s.result e.result.state.marks s.ensures e.ensures l.invariant.1 l.invariant.2 (Solved c.in-Solved.n) c.in-Solved.is
+    went c.args.grid.now c.args.order.now c.args.ceiling c.loop-i.i c.loop-i.trials c.stage_at-stage.result c.run_with-ended.result.state.marks
+    c.stage_at-stage.ensures c.run_with-ended.ensures c.loop-i.invariant.1 c.loop-i.invariant.2 (Solved c.in-Solved.n) c.in-Solved.is
 
 pub returns-in-Stopped : goal.returns-in-Stopped
 returns-in-Stopped c =
-    let a = c.args in
-    let l = c.loop-i in
-    let s = c.stage_at-stage in
-    let e = c.run_with-ended in
-    went a.grid.now a.order.now a.ceiling l.i l.trials s.result e.result.state.marks s.ensures e.ensures l.invariant.1 l.invariant.2 (Stopped c.in-Stopped.n) c.in-Stopped.is
+    went c.args.grid.now c.args.order.now c.args.ceiling c.loop-i.i c.loop-i.trials c.stage_at-stage.result c.run_with-ended.result.state.marks
+    c.stage_at-stage.ensures c.run_with-ended.ensures c.loop-i.invariant.1 c.loop-i.invariant.2 (Stopped c.in-Stopped.n) c.in-Stopped.is
 
 pub loop-i-preserved : goal.loop-i-preserved
 loop-i-preserved c =
@@ -78,32 +72,36 @@ returns c =
 
 pub overflow_add-result : goal.overflow_add-result
 overflow_add-result c =
-    let a = c.args in
-    let l = c.loop-i in
-    let s = c.stage_at-stage in
-    let e = c.run_with-ended in
-    omega (arith, c.ranges.ceiling, within a.grid.now a.order.now a.ceiling l.i l.trials s.result e.result.state.marks s.ensures e.ensures l.invariant.1 l.invariant.2 (Solved c.in-Solved.n) c.in-Solved.is)
+    omega (
+      arith,
+      c.ranges.ceiling,
+      within c.args.grid.now c.args.order.now c.args.ceiling c.loop-i.i c.loop-i.trials c.stage_at-stage.result c.run_with-ended.result.state.marks
+          c.stage_at-stage.ensures c.run_with-ended.ensures c.loop-i.invariant.1 c.loop-i.invariant.2 (Solved c.in-Solved.n) c.in-Solved.is,
+    )
 
 pub overflow_add-result-in-Stopped : goal.overflow_add-result-in-Stopped
 overflow_add-result-in-Stopped c =
-    let a = c.args in
-    let l = c.loop-i in
-    let s = c.stage_at-stage in
-    let e = c.run_with-ended in
-    omega (arith, c.ranges.ceiling, within a.grid.now a.order.now a.ceiling l.i l.trials s.result e.result.state.marks s.ensures e.ensures l.invariant.1 l.invariant.2 (Stopped c.in-Stopped.n) c.in-Stopped.is)
+    omega (
+      arith,
+      c.ranges.ceiling,
+      within c.args.grid.now c.args.order.now c.args.ceiling c.loop-i.i c.loop-i.trials c.stage_at-stage.result c.run_with-ended.result.state.marks
+          c.stage_at-stage.ensures c.run_with-ended.ensures c.loop-i.invariant.1 c.loop-i.invariant.2 (Stopped c.in-Stopped.n) c.in-Stopped.is,
+    )
 
 pub overflow_add-trials : goal.overflow_add-trials
 overflow_add-trials c =
-    let a = c.args in
-    let l = c.loop-i in
-    let s = c.stage_at-stage in
-    let e = c.run_with-ended in
-    omega (arith, c.ranges.ceiling, within a.grid.now a.order.now a.ceiling l.i l.trials s.result e.result.state.marks s.ensures e.ensures l.invariant.1 l.invariant.2 (Open c.in-Open.n) c.in-Open.is)
+    omega (
+      arith,
+      c.ranges.ceiling,
+      within c.args.grid.now c.args.order.now c.args.ceiling c.loop-i.i c.loop-i.trials c.stage_at-stage.result c.run_with-ended.result.state.marks
+          c.stage_at-stage.ensures c.run_with-ended.ensures c.loop-i.invariant.1 c.loop-i.invariant.2 (Open c.in-Open.n) c.in-Open.is,
+    )
 
 pub overflow_add-trials-in-Contradiction : goal.overflow_add-trials-in-Contradiction
 overflow_add-trials-in-Contradiction c =
-    let a = c.args in
-    let l = c.loop-i in
-    let s = c.stage_at-stage in
-    let e = c.run_with-ended in
-    omega (arith, c.ranges.ceiling, within a.grid.now a.order.now a.ceiling l.i l.trials s.result e.result.state.marks s.ensures e.ensures l.invariant.1 l.invariant.2 (Contradiction c.in-Contradiction.n) c.in-Contradiction.is)
+    omega (
+      arith,
+      c.ranges.ceiling,
+      within c.args.grid.now c.args.order.now c.args.ceiling c.loop-i.i c.loop-i.trials c.stage_at-stage.result c.run_with-ended.result.state.marks
+          c.stage_at-stage.ensures c.run_with-ended.ensures c.loop-i.invariant.1 c.loop-i.invariant.2 (Contradiction c.in-Contradiction.n) c.in-Contradiction.is,
+    )

@@ -1,5 +1,6 @@
 -- One pass over the house: after k cells, place d has the number of those where the digit d + 1 stands.
 use mathlib.Core.Path.{◌≡◌, refl, ap}
+use mathlib.Core.Bool.{true}
 use mathlib.Core.List.{List}
 use Prim.Native.Nat.{ℕ, ◌+◌, ◌-◌, ◌≤◌, ◌<◌}
 use native.Mathlib.Decide.{ℕ_discrete}
@@ -10,7 +11,8 @@ use lib.ListN.{length, get_or, get_or-replicate, set, length-set}
 use lib.Seq.{get_or-set_same, get_or-set_other}
 use Rattle.grid.specs.Counting.{tick, tally, total}
 use Rattle.grid.specs.Grid.{byte}
-use Rattle.grid.specs.Completion.{times}
+use Rattle.grid.specs.House.{cell_of}
+use Rattle.grid.specs.Completion.{is_full, times}
 use Rattle.grid.proofs.Counting.{tally_more, tally_bound}
 use Rattle.grid.proofs.House.{cell_below}
 use Rattle.grid.proofs.Completion.{full_digit}
@@ -31,59 +33,40 @@ module _ {f : ℕ → ℕ} {k : ℕ} {counts : List ℕ} (s : Counted f k counts
       go d h (no n) =
           rw (get_or-set_other counts (x - 49) d _ 0 n, ne_eqb (f k) (49 + d) (λ q. n (omega arith))) (omega (arith, s.right d h))
 
+-- the cell that is counted lies in the candidate, and its byte is a digit
+counted : (b : List ℕ) {house k cell : ℕ} → is_full b ≡ true → house < 27 → k < 9 → cell ≡ cell_of house k
+    → (cell < length b) × (49 ≤ byte b cell) × (byte b cell ≤ 57)
+counted b full h j e = full_digit b full _ (omega (arith, e, cell_below _ _ h j))
+
 pub loop-k-init : goal.loop-k-init
 unfolding total
 loop-k-init c = (omega arith, record { nine = refl; right = λ d h. get_or-replicate 9 d 0 0 h })
 
 pub overflow_add-counts : goal.overflow_add-counts
 overflow_add-counts c =
-    let cell : ℕ = c.house_cell-cell.result in
-    let x : ℕ = byte c.args.candidate.now cell in
-    let below : cell < 81 = omega (arith, c.house_cell-cell.ensures, cell_below c.args.house c.loop-k.k (omega arith) (omega arith)) in
-    let read : (cell < length c.args.candidate.now) × (49 ≤ x) × (x ≤ 57) = full_digit c.args.candidate.now c.requires.0 cell below in
-    omega (arith, count_bound c.loop-k.invariant.1 (x - 49) (omega (arith, read)))
+    let b = c.args.candidate.now in
+    let r = counted b c.requires.0 c.requires.1 c.loop-k-test.true c.house_cell-cell.ensures in
+    omega (arith, count_bound c.loop-k.invariant.1 (byte b c.house_cell-cell.result - 49) (omega (arith, r)))
 
 pub loop-k-preserved : goal.loop-k-preserved
 loop-k-preserved c =
-    let cell : ℕ = c.house_cell-cell.result in
-    let x : ℕ = byte c.args.candidate.now cell in
-    let below : cell < 81 = omega (arith, c.house_cell-cell.ensures, cell_below c.args.house c.loop-k.k (omega arith) (omega arith)) in
-    let read : (cell < length c.args.candidate.now) × (49 ≤ x) × (x ≤ 57) = full_digit c.args.candidate.now c.requires.0 cell below in
-    let e = ap (byte c.args.candidate.now) c.house_cell-cell.ensures in
-    (omega arith, count_one c.loop-k.invariant.1 x e read.1 read.2)
+    let b = c.args.candidate.now in
+    let e = c.house_cell-cell.ensures in
+    let r = counted b c.requires.0 c.requires.1 c.loop-k-test.true e in
+    (omega arith, count_one c.loop-k.invariant.1 (byte b c.house_cell-cell.result) (ap (byte b) e) r.1 r.2)
 
 pub returns : goal.returns
 unfolding times
 returns c = let e : c.loop-k.k ≡ 9 = omega arith in (rw e at c.loop-k.invariant.1).right
 
 pub bounds-candidate-cell : goal.bounds-candidate-cell
-bounds-candidate-cell c =
-    let cell : ℕ = c.house_cell-cell.result in
-    let x : ℕ = byte c.args.candidate.now cell in
-    let below : cell < 81 = omega (arith, c.house_cell-cell.ensures, cell_below c.args.house c.loop-k.k (omega arith) (omega arith)) in
-    let read : (cell < length c.args.candidate.now) × (49 ≤ x) × (x ≤ 57) = full_digit c.args.candidate.now c.requires.0 cell below in
-    read.0
+bounds-candidate-cell c = (counted c.args.candidate.now c.requires.0 c.requires.1 c.loop-k-test.true c.house_cell-cell.ensures).0
 
 pub overflow_sub-d : goal.overflow_sub-d
-overflow_sub-d c =
-    let cell : ℕ = c.house_cell-cell.result in
-    let x : ℕ = byte c.args.candidate.now cell in
-    let below : cell < 81 = omega (arith, c.house_cell-cell.ensures, cell_below c.args.house c.loop-k.k (omega arith) (omega arith)) in
-    let read : (cell < length c.args.candidate.now) × (49 ≤ x) × (x ≤ 57) = full_digit c.args.candidate.now c.requires.0 cell below in
-    read.1
+overflow_sub-d c = (counted c.args.candidate.now c.requires.0 c.requires.1 c.loop-k-test.true c.house_cell-cell.ensures).1
 
 pub bounds-counts-d : goal.bounds-counts-d
-bounds-counts-d c =
-    let cell : ℕ = c.house_cell-cell.result in
-    let x : ℕ = byte c.args.candidate.now cell in
-    let below : cell < 81 = omega (arith, c.house_cell-cell.ensures, cell_below c.args.house c.loop-k.k (omega arith) (omega arith)) in
-    let read : (cell < length c.args.candidate.now) × (49 ≤ x) × (x ≤ 57) = full_digit c.args.candidate.now c.requires.0 cell below in
-    omega (arith, read)
+bounds-counts-d c = omega (arith, counted c.args.candidate.now c.requires.0 c.requires.1 c.loop-k-test.true c.house_cell-cell.ensures)
 
 pub bounds-counts-d-in-loop-k : goal.bounds-counts-d-in-loop-k
-bounds-counts-d-in-loop-k c =
-    let cell : ℕ = c.house_cell-cell.result in
-    let x : ℕ = byte c.args.candidate.now cell in
-    let below : cell < 81 = omega (arith, c.house_cell-cell.ensures, cell_below c.args.house c.loop-k.k (omega arith) (omega arith)) in
-    let read : (cell < length c.args.candidate.now) × (49 ≤ x) × (x ≤ 57) = full_digit c.args.candidate.now c.requires.0 cell below in
-    omega (arith, read)
+bounds-counts-d-in-loop-k c = omega (arith, counted c.args.candidate.now c.requires.0 c.requires.1 c.loop-k-test.true c.house_cell-cell.ensures)

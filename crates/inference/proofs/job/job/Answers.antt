@@ -3,13 +3,10 @@ use mathlib.Core.Path.{◌≡◌, refl, ap, sym, ◌∙◌}
 use mathlib.Core.List.{List}
 use Prim.Native.Nat.{ℕ}
 use native.Mathlib.Omega.{arith}
-use lib.ListN.{length}
-use Rattle.grid.specs.Refusals.{grid_check}
 use Rattle.grid.specs.declared.Checked.TheVariants as check
 use Rattle.grid.proofs.Completion.{accepted_long}
 use Rattle.orders.specs.Order.{order_check}
 use Rattle.orders.specs.Technique.{technique_of}
-use Rattle.orders.specs.declared.technique.Numbered.TheVariants.{Known}
 use Rattle.orders.proofs.Orders.{accepted_order}
 use Rattle.inference.specs.Call.{Given, finished, job_of}
 use Rattle.inference.specs.declared.job.JobAnswer.{JobAnswer}
@@ -29,41 +26,31 @@ pub returns-in-Refused : goal.returns-in-Refused
 returns-in-Refused c =
     let a = c.args in
     call_checked a.grid.now a.technique a.order.now a.ceiling a.marks.now c.if-marks-ne729.false _ (technique_of a.technique) (order_check a.order.now)
-    (sym c.in-Refused.is ∙ c.check_grid-keyed.ensures) refl refl
+    c.in-Refused.ensures refl refl
 
 pub returns-in-Unknown : goal.returns-in-Unknown
 returns-in-Unknown c =
-    let long : length c.args.marks.now ≡ 729 = c.if-marks-ne729.false in
-    let grid_ok : check.Accepted ≡ grid_check c.args.grid.now = sym c.in-Accepted.is ∙ c.check_grid-keyed.ensures in
     let a = c.args in
     kept _ _ a.marks.now c.refused-in-Unknown.ensures
-    ∙ call_checked a.grid.now a.technique a.order.now a.ceiling a.marks.now long check.Accepted _ (order_check a.order.now)
-    grid_ok (sym c.in-Unknown.is ∙ c.numbered-named.ensures) refl
+    ∙ call_checked a.grid.now a.technique a.order.now a.ceiling a.marks.now c.if-marks-ne729.false check.Accepted _ (order_check a.order.now)
+    c.in-Accepted.ensures c.in-Unknown.ensures refl
 
 pub returns-in-Refused-ordered : goal.returns-in-Refused-ordered
 returns-in-Refused-ordered c =
-    let long : length c.args.marks.now ≡ 729 = c.if-marks-ne729.false in
-    let grid_ok : check.Accepted ≡ grid_check c.args.grid.now = sym c.in-Accepted.is ∙ c.check_grid-keyed.ensures in
-    let known : Known c.in-Known.known ≡ technique_of c.args.technique = sym c.in-Known.is ∙ c.numbered-named.ensures in
     let a = c.args in
-    call_checked a.grid.now a.technique a.order.now a.ceiling a.marks.now long check.Accepted _ _
-    grid_ok known (sym c.in-Refused-ordered.is ∙ c.check_order-ordered.ensures)
+    call_checked a.grid.now a.technique a.order.now a.ceiling a.marks.now c.if-marks-ne729.false check.Accepted _ _
+    c.in-Accepted.ensures c.in-Known.ensures c.in-Refused-ordered.ensures
 
 pub run-requires : goal.run-requires
 run-requires c =
-    let grid_ok : check.Accepted ≡ grid_check c.args.grid.now = sym c.in-Accepted.is ∙ c.check_grid-keyed.ensures in
-    let order_ok : check.Accepted ≡ order_check c.args.order.now = sym c.in-Accepted-ordered.is ∙ c.check_order-ordered.ensures in
     let a = c.args in
-    let o = accepted_order a.order.now (sym order_ok) in
-    (accepted_long a.grid.now (sym grid_ok), λ i h. o.1 i (omega (arith, h, o.0)))
+    let o = accepted_order a.order.now (sym c.in-Accepted-ordered.ensures) in
+    (accepted_long a.grid.now (sym c.in-Accepted.ensures), λ i h. o.1 i (omega (arith, h, o.0)))
 
 pub returns-in-Accepted-ordered : goal.returns-in-Accepted-ordered
 unfolding job_of
 returns-in-Accepted-ordered c =
-    let long : length c.args.marks.now ≡ 729 = c.if-marks-ne729.false in
-    let grid_ok : check.Accepted ≡ grid_check c.args.grid.now = sym c.in-Accepted.is ∙ c.check_grid-keyed.ensures in
-    let known : Known c.in-Known.known ≡ technique_of c.args.technique = sym c.in-Known.is ∙ c.numbered-named.ensures in
-    let order_ok : check.Accepted ≡ order_check c.args.order.now = sym c.in-Accepted-ordered.is ∙ c.check_order-ordered.ensures in
     let a = c.args in
     c.finish.ensures ∙ ap finished c.run.ensures
-    ∙ call_checked a.grid.now a.technique a.order.now a.ceiling a.marks.now long check.Accepted _ check.Accepted grid_ok known order_ok
+    ∙ call_checked a.grid.now a.technique a.order.now a.ceiling a.marks.now c.if-marks-ne729.false check.Accepted _ check.Accepted
+    c.in-Accepted.ensures c.in-Known.ensures c.in-Accepted-ordered.ensures

@@ -9,14 +9,14 @@ use lib.Dec.{T}
 use lib.IntN.{ℤ, pos, negsuc}
 use lib.ListN.{set}
 use lib.Signed.{lt_z}
-use Rattle.clauses.specs.Literal.{Literal, mark_index}
+use Rattle.clauses.specs.Literal.{Literal}
 use Rattle.clauses.specs.declared.ClauseSet.{ClauseSet}
 use Rattle.closure.specs.Marks.{is_decided}
 use Rattle.propagation.specs.Steps.{StateOk}
 use Rattle.clauses.proofs.Signed.{read, test_of}
 use Rattle.worklist.specs.Acting.{Ready, Undecided, Struck, Stepped}
 use Rattle.worklist.specs.declared.acting.Work.{Work}
-use Rattle.worklist.proofs.Literals.{place_at, byte_of, place_below, index_place, open_byte, has_set}
+use Rattle.worklist.proofs.Literals.{place_read, place_at, byte_of, place_below, open_byte, has_set}
 use Rattle.propagation.proofs.Looking.{stepped_none}
 use Rattle.propagation.proofs.Closing.{state_ready, closed_struck, struck_false, closes_begun}
 use Rattle.propagation.proofs.close.close_with.Goals as goal
@@ -57,22 +57,18 @@ module _ (s : ClauseSet) (marks sums : List ℕ) (decided : ℕ) (l : ℤ) (ok :
     begun_true : byte_of l ≡ 1 → Stepped s (set marks p 1) m' a' ls' w' → Stepped s marked m' a' ls' w'
     begun_true b v = subst (λ y. Stepped s y m' a' ls' w') (ap (λ p. set marks p 1) is_place ∙ ap (set marks (place_at l)) (sym b)) v
 
--- the place that is computed
-computed : {k : ℕ} {l l' : ℤ} → k ≡ mark_index l' → l' ≡ l → Literal l → k ≡ place_at l
-computed e r lit = e ∙ ap mark_index r ∙ index_place _ lit
-
 pub assign-begun-requires : goal.assign-begun-requires
 assign-begun-requires c =
     let a = c.args in
     let r = c.requires in
-    let p = computed c.mark_index-p.ensures (read a.literal c.ranges.literal) r.1 in
+    let p = place_read c.mark_index-p.ensures (read a.literal c.ranges.literal) r.1 in
     (state_ready a.set r.0 c.room.ensures, undecided a.set a.marks.now a.sums.now a.decided a.literal r.0 r.1 r.2 _ p, (omega arith, omega arith))
 
 pub affirm-begun-requires : goal.affirm-begun-requires
 affirm-begun-requires c =
     let a = c.args in
     let r = c.requires in
-    let p = computed c.mark_index-p.ensures (read a.literal c.ranges.literal) r.1 in (
+    let p = place_read c.mark_index-p.ensures (read a.literal c.ranges.literal) r.1 in (
       state_ready a.set r.0 c.room.ensures,
       struck a.set a.marks.now a.sums.now a.decided a.literal r.0 r.1 r.2 _ p,
       undecided a.set a.marks.now a.sums.now a.decided a.literal r.0 r.1 r.2 _ p,
@@ -83,7 +79,7 @@ propagate-requires c =
     let a = c.args in
     let r = c.requires in
     let i = c.if-literal-lt0 in
-    let p = computed c.mark_index-p.ensures (read a.literal c.ranges.literal) r.1 in
+    let p = place_read c.mark_index-p.ensures (read a.literal c.ranges.literal) r.1 in
     let v : Stepped a.set (set a.marks.now (place_at a.literal) (byte_of a.literal)) i.marks i.sums i.list i.begun = elim i.branch [
       | then-literal-lt0 w ↦
           rw (w.marks-is, w.sums-is, w.list-is, w.begun-is)
@@ -101,7 +97,7 @@ returns c =
     let a = c.args in
     let r = c.requires in
     let i = c.if-literal-lt0 in
-    let p = computed c.mark_index-p.ensures (read a.literal c.ranges.literal) r.1 in
+    let p = place_read c.mark_index-p.ensures (read a.literal c.ranges.literal) r.1 in
     let v : Stepped a.set (set a.marks.now (place_at a.literal) (byte_of a.literal)) i.marks i.sums i.list i.begun = elim i.branch [
       | then-literal-lt0 w ↦
           rw (w.marks-is, w.sums-is, w.list-is, w.begun-is)

@@ -4,74 +4,91 @@ use mathlib.Core.List.{List}
 use Prim.Native.Nat.{ℕ}
 use lib.Dec.{T}
 use lib.IntN.{ℤ, neg_ℤ}
-use mir.Syntax.{w16}
-use mir.Val.{to_z, of_z}
 use Rattle.clauses.specs.Clauses.{clauses_of}
 use Rattle.clauses.specs.Literal.{Literal, negation}
 use Rattle.clauses.proofs.Signed.{read, returned, negation_literal}
 use Rattle.closure.specs.Closure.{With}
-use Rattle.closure.specs.Marks.{has, is_decided, mark}
+use Rattle.closure.specs.Marks.{has, is_decided, mark, IsMarks}
 use Rattle.closure.specs.Propagation.{Answer, unit_closure}
 use Rattle.propagation.specs.Steps.{answer_of, ClosesTo}
 use Rattle.propagation.specs.declared.close.Reached.TheVariants.{Clash}
 use Rattle.propagation.proofs.Closing.{closes_computed, closes_answer, closes_state}
 use Rattle.trials.proofs.Knowing.{known_noted, possible_joined}
 use Rattle.trials.proofs.Trying.{try_kept, try_refuted, try_broken, negation_is, open_negation}
+use Rattle.clauses.specs.declared.ClauseSet.{ClauseSet}
+use Rattle.propagation.specs.declared.close.Reached.{Reached}
 use Rattle.trials.proofs.trial.attempt.Goals as goal
+
+-- what a closure with the literal k comes to, where the call reads k'
+module _ (s : ClauseSet) (marks m' a' : List ℕ) {r : Reached} (k : ℤ) {k' : ℤ} (e : k' ≡ k) (v : ClosesTo s (With (has marks) k') m' a' r) where
+  closes : ClosesTo s (With (has marks) k) m' a' r
+  closes = subst (λ x. ClosesTo s (With (has marks) x) m' a' r) e v
+
+  computed : IsMarks marks → Literal k → (T (is_decided marks k) → ⊥) → answer_of r m' ≡ unit_closure (clauses_of s) (mark marks k)
+  computed i lit u = closes_computed s marks k i lit u closes
+
+-- the negation as the code has it
+module _ {l l' n : ℤ} {r : ℤ} (t : r ≡ n) (e : n ≡ negation l') (q : l' ≡ l) (lit : Literal l) where
+  negated : r ≡ neg_ℤ l
+  negated = t ∙ e ∙ ap negation q ∙ negation_is l lit
 
 pub close_with-joined-requires : goal.close_with-joined-requires
 close_with-joined-requires c =
-    let marks : List ℕ = c.args.marks.now in
-    let l : ℤ = c.args.literal in
-    let negated : to_z w16 (of_z w16 c.negated.result) ≡ neg_ℤ l = returned _ c.negated.type_inv ∙ c.negated.ensures ∙ ap negation (read l c.ranges.literal) ∙ negation_is l c.requires.2 in
-    let negation_ok : Literal (neg_ℤ l) = (negation_literal l c.requires.2).0 in
-    let negation_open : T (is_decided marks (neg_ℤ l)) → ⊥ = open_negation marks l c.requires.3 in
-    (c.requires.0, subst Literal (sym negated) negation_ok, subst (λ x. T (is_decided marks x) → ⊥) (sym negated) negation_open)
+    let a = c.args in
+    let r = c.requires in
+    let n = negated (returned _ c.negated.type_inv) c.negated.ensures (read a.literal c.ranges.literal) r.2 in
+    (r.0, subst Literal (sym n) (negation_literal a.literal r.2).0, subst (λ x. T (is_decided a.marks.now x) → ⊥) (sym n) (open_negation a.marks.now a.literal r.3))
 
 pub returns-in-Decided : goal.returns-in-Decided
 returns-in-Decided c =
-    let marks : List ℕ = c.args.marks.now in
-    let l : ℤ = c.args.literal in
-    let closure : ℤ → Answer = λ k. unit_closure (clauses_of c.args.set) (mark marks k) in
-    let first_closes : ClosesTo c.args.set (With (has marks) l) c.close_with-tried.new.marks c.close_with-tried.new.sums c.close_with-tried.result = subst (λ k. ClosesTo c.args.set (With (has marks) k) c.close_with-tried.new.marks c.close_with-tried.new.sums c.close_with-tried.result) (read l c.ranges.literal) c.close_with-tried.ensures in
-    let first : answer_of c.close_with-tried.result c.close_with-tried.new.marks ≡ closure l = closes_computed c.args.set marks l c.requires.0.marks.marks c.requires.2 c.requires.3 first_closes in
-    let v = first_closes in (
-      try_kept (closure l) (closure (neg_ℤ l)) c.close_with-tried.result c.close_with-tried.new.marks first c.in-Decided.is,
-      (refl, refl, known_noted c.args.set marks c.close_with-tried.new.marks l c.requires.1 (closes_state v _ c.in-Decided.is).marks.marks (closes_answer v _ c.in-Decided.is) c.note.ensures.0 c.note.ensures.1),
+    let a = c.args in
+    let r = c.requires in
+    let t = c.close_with-tried in
+    let e = read a.literal c.ranges.literal in
+    let v = closes a.set a.marks.now t.new.marks t.new.sums a.literal e t.ensures in
+    let k : ℤ → Answer = λ x. unit_closure (clauses_of a.set) (mark a.marks.now x) in (
+      try_kept (k a.literal) (k (neg_ℤ a.literal)) t.result t.new.marks
+          (computed a.set a.marks.now t.new.marks t.new.sums a.literal e t.ensures r.0.marks.marks r.2 r.3) c.in-Decided.is,
+      (
+        refl,
+        refl,
+        known_noted a.set a.marks.now t.new.marks a.literal r.1 (closes_state v _ c.in-Decided.is).marks.marks (closes_answer v _ c.in-Decided.is) c.note.ensures.0 c.note.ensures.1,
+      ),
     )
 
 pub returns-in-Decided-joined : goal.returns-in-Decided-joined
 returns-in-Decided-joined c =
-    let marks : List ℕ = c.args.marks.now in
-    let l : ℤ = c.args.literal in
-    let closure : ℤ → Answer = λ k. unit_closure (clauses_of c.args.set) (mark marks k) in
-    let first_closes : ClosesTo c.args.set (With (has marks) l) c.close_with-tried.new.marks c.close_with-tried.new.sums c.close_with-tried.result = subst (λ k. ClosesTo c.args.set (With (has marks) k) c.close_with-tried.new.marks c.close_with-tried.new.sums c.close_with-tried.result) (read l c.ranges.literal) c.close_with-tried.ensures in
-    let first : answer_of c.close_with-tried.result c.close_with-tried.new.marks ≡ closure l = closes_computed c.args.set marks l c.requires.0.marks.marks c.requires.2 c.requires.3 first_closes in
-    let negated : to_z w16 (of_z w16 c.negated.result) ≡ neg_ℤ l = returned _ c.negated.type_inv ∙ c.negated.ensures ∙ ap negation (read l c.ranges.literal) ∙ negation_is l c.requires.2 in
-    let negation_ok : Literal (neg_ℤ l) = (negation_literal l c.requires.2).0 in
-    let negation_open : T (is_decided marks (neg_ℤ l)) → ⊥ = open_negation marks l c.requires.3 in
-    let second_closes : ClosesTo c.args.set (With (has marks) (neg_ℤ l)) c.close_with-joined.new.marks c.close_with-joined.new.sums c.close_with-joined.result = subst (λ k. ClosesTo c.args.set (With (has marks) k) c.close_with-joined.new.marks c.close_with-joined.new.sums c.close_with-joined.result) negated c.close_with-joined.ensures in
-    let second : answer_of c.close_with-joined.result c.close_with-joined.new.marks ≡ closure (neg_ℤ l) = closes_computed c.args.set marks (neg_ℤ l) c.requires.0.marks.marks negation_ok negation_open second_closes in
-    let failed : c.close_with-tried.result ≡ Clash = c.in-Clash.is in (
-      try_refuted (closure l) (closure (neg_ℤ l)) c.close_with-tried.result c.close_with-tried.new.marks first failed
-          c.close_with-joined.result c.close_with-joined.new.marks second c.in-Decided-joined.is,
-      (closes_state second_closes _ c.in-Decided-joined.is, possible_joined c.args.set marks c.close_with-joined.new.marks l c.requires.2 (λ y. y (closes_answer first_closes Clash failed)) (closes_answer second_closes _ c.in-Decided-joined.is)),
+    let a = c.args in
+    let r = c.requires in
+    let t = c.close_with-tried in
+    let j = c.close_with-joined in
+    let e = read a.literal c.ranges.literal in
+    let n = negated (returned _ c.negated.type_inv) c.negated.ensures e r.2 in
+    let v = closes a.set a.marks.now t.new.marks t.new.sums a.literal e t.ensures in
+    let w = closes a.set a.marks.now j.new.marks j.new.sums (neg_ℤ a.literal) n j.ensures in
+    let k : ℤ → Answer = λ x. unit_closure (clauses_of a.set) (mark a.marks.now x) in (
+      try_refuted (k a.literal) (k (neg_ℤ a.literal)) t.result t.new.marks
+          (computed a.set a.marks.now t.new.marks t.new.sums a.literal e t.ensures r.0.marks.marks r.2 r.3) c.in-Clash.is j.result j.new.marks
+          (computed a.set a.marks.now j.new.marks j.new.sums (neg_ℤ a.literal) n j.ensures r.0.marks.marks (negation_literal a.literal r.2).0 (open_negation a.marks.now a.literal r.3))
+          c.in-Decided-joined.is,
+      (
+        closes_state w _ c.in-Decided-joined.is,
+        possible_joined a.set a.marks.now j.new.marks a.literal r.2 (λ y. y (closes_answer v Clash c.in-Clash.is)) (closes_answer w _ c.in-Decided-joined.is),
+      ),
     )
 
 pub returns-in-Clash-joined : goal.returns-in-Clash-joined
 returns-in-Clash-joined c =
-    let marks : List ℕ = c.args.marks.now in
-    let l : ℤ = c.args.literal in
-    let closure : ℤ → Answer = λ k. unit_closure (clauses_of c.args.set) (mark marks k) in
-    let first_closes : ClosesTo c.args.set (With (has marks) l) c.close_with-tried.new.marks c.close_with-tried.new.sums c.close_with-tried.result = subst (λ k. ClosesTo c.args.set (With (has marks) k) c.close_with-tried.new.marks c.close_with-tried.new.sums c.close_with-tried.result) (read l c.ranges.literal) c.close_with-tried.ensures in
-    let first : answer_of c.close_with-tried.result c.close_with-tried.new.marks ≡ closure l = closes_computed c.args.set marks l c.requires.0.marks.marks c.requires.2 c.requires.3 first_closes in
-    let negated : to_z w16 (of_z w16 c.negated.result) ≡ neg_ℤ l = returned _ c.negated.type_inv ∙ c.negated.ensures ∙ ap negation (read l c.ranges.literal) ∙ negation_is l c.requires.2 in
-    let negation_ok : Literal (neg_ℤ l) = (negation_literal l c.requires.2).0 in
-    let negation_open : T (is_decided marks (neg_ℤ l)) → ⊥ = open_negation marks l c.requires.3 in
-    let second_closes : ClosesTo c.args.set (With (has marks) (neg_ℤ l)) c.close_with-joined.new.marks c.close_with-joined.new.sums c.close_with-joined.result = subst (λ k. ClosesTo c.args.set (With (has marks) k) c.close_with-joined.new.marks c.close_with-joined.new.sums c.close_with-joined.result) negated c.close_with-joined.ensures in
-    let second : answer_of c.close_with-joined.result c.close_with-joined.new.marks ≡ closure (neg_ℤ l) = closes_computed c.args.set marks (neg_ℤ l) c.requires.0.marks.marks negation_ok negation_open second_closes in
-    let failed : c.close_with-tried.result ≡ Clash = c.in-Clash.is in (
-      try_broken (closure l) (closure (neg_ℤ l)) c.close_with-tried.result c.close_with-tried.new.marks first failed
-          c.close_with-joined.result c.close_with-joined.new.marks second c.in-Clash-joined.is,
+    let a = c.args in
+    let r = c.requires in
+    let t = c.close_with-tried in
+    let j = c.close_with-joined in
+    let e = read a.literal c.ranges.literal in
+    let n = negated (returned _ c.negated.type_inv) c.negated.ensures e r.2 in
+    let k : ℤ → Answer = λ x. unit_closure (clauses_of a.set) (mark a.marks.now x) in (
+      try_broken (k a.literal) (k (neg_ℤ a.literal)) t.result t.new.marks
+          (computed a.set a.marks.now t.new.marks t.new.sums a.literal e t.ensures r.0.marks.marks r.2 r.3) c.in-Clash.is j.result j.new.marks
+          (computed a.set a.marks.now j.new.marks j.new.sums (neg_ℤ a.literal) n j.ensures r.0.marks.marks (negation_literal a.literal r.2).0 (open_negation a.marks.now a.literal r.3))
+          c.in-Clash-joined.is,
       refl,
     )

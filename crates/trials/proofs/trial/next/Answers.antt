@@ -1,5 +1,6 @@
 -- Skipped, stopped, known or tried.
-use mathlib.Core.Path.{◌≡◌, ap, sym, subst, ◌∙◌}
+use mathlib.Core.Path.{◌≡◌, refl, ap, sym, subst, ◌∙◌}
+use mathlib.Core.Bool.{Bool}
 use mathlib.Core.List.{List}
 use Prim.Native.Nat.{ℕ, ◌+◌, ◌<◌}
 use native.Mathlib.Omega.{arith}
@@ -12,12 +13,10 @@ use Rattle.clauses.specs.declared.ClauseSet.{ClauseSet}
 use Rattle.clauses.proofs.Signed.{read}
 use Rattle.closure.specs.Marks.{is_decided, mark, decided}
 use Rattle.closure.specs.Propagation.{unit_closure}
-use Rattle.closure.specs.Job.{Step, Walk, after, try, step, walked, kept}
-use Rattle.worklist.proofs.Literals.{place_at, index_place, byte_open}
+use Rattle.closure.specs.Job.{Step, Walk, after, try, step, walked}
+use Rattle.worklist.proofs.Literals.{place_read, byte_open}
 use Rattle.trials.specs.Known.{Names, Named}
-use Rattle.trials.specs.Steps.{tried_of, TriedOk, Walking}
-use Rattle.trials.specs.declared.trial.Shown.{Shown}
-use Rattle.trials.specs.declared.trial.Shown.TheVariants.{Kept, Refuted, Broken}
+use Rattle.trials.specs.Steps.{Walking}
 use Rattle.trials.proofs.Knowing.{known_kept, possible_known}
 use Rattle.trials.proofs.Trying.{byte_decided, next_skip, next_halt, next_tried, next_solved, next_more}
 use Rattle.trials.proofs.trial.next.Goals as goal
@@ -26,133 +25,103 @@ use Rattle.trials.proofs.trial.next.Goals as goal
 walking_same : (s : ClauseSet) {m m' a a' ks ps : List ℕ} {d : ℕ} → m' ≡ m → a' ≡ a → Walking s m a ks ps d → Walking s m' a' ks ps d
 walking_same s {m} {m'} {a} {a'} {ks} {ps} {d} e f w = subst (λ y. Walking s y a' ks ps d) (sym e) (subst (λ y. Walking s m y ks ps d) (sym f) w)
 
+-- what a byte of 0 there says
+undecided : (marks : List ℕ) {p : ℕ} {l l' : ℤ} → p ≡ mark_index l' → l' ≡ l → Literal l → get_or marks p 0 ≡ 0 → T (is_decided marks l) → ⊥
+undecided marks e q lit z = byte_open marks _ lit (ap (λ x. get_or marks x 0) (sym (place_read e q lit)) ∙ z)
+
+-- the literal l comes after n trials under the ceiling, and is not decided
+module _ (s : ClauseSet) (marks : List ℕ) (ceiling n : ℕ) (failed : Bool) (l : ℤ) (u : T (is_decided marks l) → ⊥) (below : n < ceiling) where
+  abbrev thereafter : Step → Walk
+  thereafter x = after x marks n failed (λ t k b. walked t k b)
+
+  abbrev shown : ℤ → Step
+  shown k = try (unit_closure (clauses_of s) (mark marks k)) (λ v. unit_closure (clauses_of s) (mark marks (neg_ℤ k)))
+
+  -- what a trial of the literal shows is what the step comes to
+  tried : {x : Step} {l' : ℤ} → x ≡ shown l' → l' ≡ l → thereafter x ≡ thereafter (step (clauses_of s) ceiling marks n l)
+  tried {x} t q = next_tried (clauses_of s) ceiling marks n l failed u (λ z. omega (arith, below, z)) x (t ∙ ap shown q)
+
 pub returns-then-marks-at-ne0 : goal.returns-then-marks-at-ne0
 returns-then-marks-at-ne0 c =
-    let marks : List ℕ = c.args.marks.now in
-    let l : ℤ = c.args.literal in
-    let is_index : c.mark_index-at.result ≡ mark_index l = c.mark_index-at.ensures ∙ ap mark_index (read l c.ranges.literal) in
-    let is_place : c.mark_index-at.result ≡ place_at l = is_index ∙ index_place l c.requires.1 in
-    let t = byte_decided marks c.requires.0.state.marks.marks l c.requires.1 (λ e. c.if-marks-at-ne0.true (ap (λ x. get_or marks x 0) is_place ∙ e)) in
-    (next_skip (clauses_of c.args.set) c.args.ceiling marks c.args.count l c.args.failed t, (c.requires.2, c.requires.0))
+    let a = c.args in
+    let r = c.requires in
+    let p = place_read c.mark_index-at.ensures (read a.literal c.ranges.literal) r.1 in
+    let t = byte_decided a.marks.now r.0.state.marks.marks a.literal r.1 (λ e. c.if-marks-at-ne0.true (ap (λ x. get_or a.marks.now x 0) p ∙ e)) in
+    (next_skip (clauses_of a.set) a.ceiling a.marks.now a.count a.literal a.failed t, (r.2, r.0))
 
 pub returns-then-count-ceiling : goal.returns-then-count-ceiling
 returns-then-count-ceiling c =
-    let marks : List ℕ = c.args.marks.now in
-    let l : ℤ = c.args.literal in
-    let is_index : c.mark_index-at.result ≡ mark_index l = c.mark_index-at.ensures ∙ ap mark_index (read l c.ranges.literal) in
-    let is_place : c.mark_index-at.result ≡ place_at l = is_index ∙ index_place l c.requires.1 in
-    let undecided : T (is_decided marks l) → ⊥ = byte_open marks l c.requires.1 (ap (λ x. get_or marks x 0) (sym is_place) ∙ c.if-marks-at-ne0.false) in
-    (next_halt (clauses_of c.args.set) c.args.ceiling marks c.args.count l c.args.failed undecided (omega (arith, c.if-count-ceiling.true, c.requires.2)), c.requires.0.state.count)
+    let a = c.args in
+    let r = c.requires in
+    let u = undecided a.marks.now c.mark_index-at.ensures (read a.literal c.ranges.literal) r.1 c.if-marks-at-ne0.false in
+    (next_halt (clauses_of a.set) a.ceiling a.marks.now a.count a.literal a.failed u (omega (arith, c.if-count-ceiling.true, r.2)), r.0.state.count)
 
 pub returns-then-is_named : goal.returns-then-is_named
 returns-then-is_named c =
-    let marks : List ℕ = c.args.marks.now in
-    let l : ℤ = c.args.literal in
-    let Next : Walk = after (step (clauses_of c.args.set) c.args.ceiling marks c.args.count l) marks c.args.count c.args.failed (λ t k b. walked t k b) in
-    let thereafter : Step → Walk = λ s. after s marks c.args.count c.args.failed (λ t k b. walked t k b) in
-    let is_index : c.mark_index-at.result ≡ mark_index l = c.mark_index-at.ensures ∙ ap mark_index (read l c.ranges.literal) in
-    let is_place : c.mark_index-at.result ≡ place_at l = is_index ∙ index_place l c.requires.1 in
-    let undecided : T (is_decided marks l) → ⊥ = byte_open marks l c.requires.1 (ap (λ x. get_or marks x 0) (sym is_place) ∙ c.if-marks-at-ne0.false) in
-    let below : c.args.count < c.args.ceiling = omega (arith, c.requires.2, c.if-count-ceiling.false) in
-    let shows : (s : Step) → s ≡ try (unit_closure (clauses_of c.args.set) (mark marks l)) (λ u. unit_closure (clauses_of c.args.set) (mark marks (neg_ℤ l))) → thereafter s ≡ Next = λ s e. next_tried (clauses_of c.args.set) c.args.ceiling marks c.args.count l c.args.failed undecided (λ q. omega (arith, below, q)) s e in
-    let named : Named c.args.known.now l =
-    subst (λ p. Names (get_or c.args.known.now p 0) l) is_index (subst (Names (get_or c.args.known.now c.mark_index-at.result 0)) (read l c.ranges.literal) (c.is_named.ensures c.if-is_named.true)) in (
-      shows kept (known_kept c.args.set marks l c.requires.1 undecided (c.requires.0.known.succeeds l c.requires.1 named) (λ u. unit_closure (clauses_of c.args.set) (mark marks (neg_ℤ l)))),
-      (omega (arith, below), c.requires.0),
+    let a = c.args in
+    let r = c.requires in
+    let m = read a.literal c.ranges.literal in
+    let u = undecided a.marks.now c.mark_index-at.ensures m r.1 c.if-marks-at-ne0.false in
+    let below : a.count < a.ceiling = omega (arith, r.2, c.if-count-ceiling.false) in
+    let n : Named a.known.now a.literal =
+    subst (λ p. Names (get_or a.known.now p 0) a.literal) (c.mark_index-at.ensures ∙ ap mark_index m)
+    (subst (Names (get_or a.known.now c.mark_index-at.result 0)) m (c.is_named.ensures c.if-is_named.true)) in (
+      tried a.set a.marks.now a.ceiling a.count a.failed a.literal u below
+          (known_kept a.set a.marks.now a.literal r.1 u (r.0.known.succeeds a.literal r.1 n) (λ v. unit_closure (clauses_of a.set) (mark a.marks.now (neg_ℤ a.literal)))) refl,
+      (omega (arith, below), r.0),
     )
 
 pub attempt-shown-requires : goal.attempt-shown-requires
 attempt-shown-requires c =
-    let marks : List ℕ = c.args.marks.now in
-    let l : ℤ = c.args.literal in
-    let is_index : c.mark_index-at.result ≡ mark_index l = c.mark_index-at.ensures ∙ ap mark_index (read l c.ranges.literal) in
-    let is_place : c.mark_index-at.result ≡ place_at l = is_index ∙ index_place l c.requires.1 in
-    let undecided : T (is_decided marks l) → ⊥ = byte_open marks l c.requires.1 (ap (λ x. get_or marks x 0) (sym is_place) ∙ c.if-marks-at-ne0.false) in
-    let r = read l c.ranges.literal in
-    (c.requires.0.state, c.requires.0.known, subst Literal (sym r) c.requires.1, subst (λ x. T (is_decided marks x) → ⊥) (sym r) undecided)
+    let a = c.args in
+    let r = c.requires in
+    let m = read a.literal c.ranges.literal in
+    let u = undecided a.marks.now c.mark_index-at.ensures m r.1 c.if-marks-at-ne0.false in
+    (r.0.state, r.0.known, subst Literal (sym m) r.1, subst (λ x. T (is_decided a.marks.now x) → ⊥) (sym m) u)
 
 pub returns-then-more-eq729 : goal.returns-then-more-eq729
 returns-then-more-eq729 c =
-    let marks : List ℕ = c.args.marks.now in
-    let l : ℤ = c.args.literal in
-    let Next : Walk = after (step (clauses_of c.args.set) c.args.ceiling marks c.args.count l) marks c.args.count c.args.failed (λ t k b. walked t k b) in
-    let thereafter : Step → Walk = λ s. after s marks c.args.count c.args.failed (λ t k b. walked t k b) in
-    let is_index : c.mark_index-at.result ≡ mark_index l = c.mark_index-at.ensures ∙ ap mark_index (read l c.ranges.literal) in
-    let is_place : c.mark_index-at.result ≡ place_at l = is_index ∙ index_place l c.requires.1 in
-    let undecided : T (is_decided marks l) → ⊥ = byte_open marks l c.requires.1 (ap (λ x. get_or marks x 0) (sym is_place) ∙ c.if-marks-at-ne0.false) in
-    let below : c.args.count < c.args.ceiling = omega (arith, c.requires.2, c.if-count-ceiling.false) in
-    let shows : (s : Step) → s ≡ try (unit_closure (clauses_of c.args.set) (mark marks l)) (λ u. unit_closure (clauses_of c.args.set) (mark marks (neg_ℤ l))) → thereafter s ≡ Next = λ s e. next_tried (clauses_of c.args.set) c.args.ceiling marks c.args.count l c.args.failed undecided (λ q. omega (arith, below, q)) s e in
-    let m' : List ℕ = c.attempt-shown.new.marks in
-    let tried : (s : Shown) → c.attempt-shown.result ≡ s → thereafter (tried_of s m') ≡ Next = λ s e. let cs = clauses_of c.args.set in
-    shows (tried_of s m') (ap (λ x. tried_of x m') (sym e) ∙ c.attempt-shown.ensures.0
-    ∙ ap (λ x. try (unit_closure cs (mark marks x)) (λ u. unit_closure cs (mark marks (neg_ℤ x)))) (read l c.ranges.literal)) in
-    let left : (s : Shown) → c.attempt-shown.result ≡ s → TriedOk c.args.set marks c.args.sums.now m' c.attempt-shown.new.sums c.attempt-shown.new.known s = λ s e. subst (TriedOk c.args.set marks c.args.sums.now m' c.attempt-shown.new.sums c.attempt-shown.new.known) e c.attempt-shown.ensures.1 in
-    let joined : TriedOk c.args.set marks c.args.sums.now m' c.attempt-shown.new.sums c.attempt-shown.new.known (Refuted c.in-Refuted.more) = left (Refuted c.in-Refuted.more) c.in-Refuted.is in (
-      next_solved marks m' c.args.count c.args.failed (sym joined.0.count ∙ c.if-more-eq729.true) ∙ tried (Refuted c.in-Refuted.more) c.in-Refuted.is,
-      joined.0.count,
+    let a = c.args in
+    let r = c.requires in
+    let m = read a.literal c.ranges.literal in
+    let u = undecided a.marks.now c.mark_index-at.ensures m r.1 c.if-marks-at-ne0.false in
+    let w = c.in-Refuted.ensures in (
+      next_solved a.marks.now c.attempt-shown.new.marks a.count a.failed (sym w.1.0.count ∙ c.if-more-eq729.true)
+          ∙ tried a.set a.marks.now a.ceiling a.count a.failed a.literal u (omega (arith, r.2, c.if-count-ceiling.false)) w.0 m,
+      w.1.0.count,
     )
 
 pub returns-in-Kept : goal.returns-in-Kept
 returns-in-Kept c =
-    let marks : List ℕ = c.args.marks.now in
-    let l : ℤ = c.args.literal in
-    let Next : Walk = after (step (clauses_of c.args.set) c.args.ceiling marks c.args.count l) marks c.args.count c.args.failed (λ t k b. walked t k b) in
-    let thereafter : Step → Walk = λ s. after s marks c.args.count c.args.failed (λ t k b. walked t k b) in
-    let is_index : c.mark_index-at.result ≡ mark_index l = c.mark_index-at.ensures ∙ ap mark_index (read l c.ranges.literal) in
-    let is_place : c.mark_index-at.result ≡ place_at l = is_index ∙ index_place l c.requires.1 in
-    let undecided : T (is_decided marks l) → ⊥ = byte_open marks l c.requires.1 (ap (λ x. get_or marks x 0) (sym is_place) ∙ c.if-marks-at-ne0.false) in
-    let below : c.args.count < c.args.ceiling = omega (arith, c.requires.2, c.if-count-ceiling.false) in
-    let shows : (s : Step) → s ≡ try (unit_closure (clauses_of c.args.set) (mark marks l)) (λ u. unit_closure (clauses_of c.args.set) (mark marks (neg_ℤ l))) → thereafter s ≡ Next = λ s e. next_tried (clauses_of c.args.set) c.args.ceiling marks c.args.count l c.args.failed undecided (λ q. omega (arith, below, q)) s e in
-    let m' : List ℕ = c.attempt-shown.new.marks in
-    let tried : (s : Shown) → c.attempt-shown.result ≡ s → thereafter (tried_of s m') ≡ Next = λ s e. let cs = clauses_of c.args.set in
-    shows (tried_of s m') (ap (λ x. tried_of x m') (sym e) ∙ c.attempt-shown.ensures.0
-    ∙ ap (λ x. try (unit_closure cs (mark marks x)) (λ u. unit_closure cs (mark marks (neg_ℤ x)))) (read l c.ranges.literal)) in
-    let left : (s : Shown) → c.attempt-shown.result ≡ s → TriedOk c.args.set marks c.args.sums.now m' c.attempt-shown.new.sums c.attempt-shown.new.known s = λ s e. subst (TriedOk c.args.set marks c.args.sums.now m' c.attempt-shown.new.sums c.attempt-shown.new.known) e c.attempt-shown.ensures.1 in
-    let w = left Kept c.in-Kept.is in (
-      ap (λ x. walked x (c.args.count + 1) c.args.failed) w.0 ∙ tried Kept c.in-Kept.is,
-      (
-        omega (arith, below),
-        walking_same c.args.set w.0 w.1 (record { state = c.requires.0.state; known = w.2; possible = c.requires.0.possible }),
-      ),
+    let a = c.args in
+    let r = c.requires in
+    let m = read a.literal c.ranges.literal in
+    let u = undecided a.marks.now c.mark_index-at.ensures m r.1 c.if-marks-at-ne0.false in
+    let below : a.count < a.ceiling = omega (arith, r.2, c.if-count-ceiling.false) in
+    let w = c.in-Kept.ensures in (
+      ap (λ x. walked x (a.count + 1) a.failed) w.1.0 ∙ tried a.set a.marks.now a.ceiling a.count a.failed a.literal u below w.0 m,
+      (omega (arith, below), walking_same a.set w.1.0 w.1.1 (record { state = r.0.state; known = w.1.2; possible = r.0.possible })),
     )
 
 pub returns-in-Broken : goal.returns-in-Broken
 returns-in-Broken c =
-    let marks : List ℕ = c.args.marks.now in
-    let l : ℤ = c.args.literal in
-    let Next : Walk = after (step (clauses_of c.args.set) c.args.ceiling marks c.args.count l) marks c.args.count c.args.failed (λ t k b. walked t k b) in
-    let thereafter : Step → Walk = λ s. after s marks c.args.count c.args.failed (λ t k b. walked t k b) in
-    let is_index : c.mark_index-at.result ≡ mark_index l = c.mark_index-at.ensures ∙ ap mark_index (read l c.ranges.literal) in
-    let is_place : c.mark_index-at.result ≡ place_at l = is_index ∙ index_place l c.requires.1 in
-    let undecided : T (is_decided marks l) → ⊥ = byte_open marks l c.requires.1 (ap (λ x. get_or marks x 0) (sym is_place) ∙ c.if-marks-at-ne0.false) in
-    let below : c.args.count < c.args.ceiling = omega (arith, c.requires.2, c.if-count-ceiling.false) in
-    let shows : (s : Step) → s ≡ try (unit_closure (clauses_of c.args.set) (mark marks l)) (λ u. unit_closure (clauses_of c.args.set) (mark marks (neg_ℤ l))) → thereafter s ≡ Next = λ s e. next_tried (clauses_of c.args.set) c.args.ceiling marks c.args.count l c.args.failed undecided (λ q. omega (arith, below, q)) s e in
-    let m' : List ℕ = c.attempt-shown.new.marks in
-    let tried : (s : Shown) → c.attempt-shown.result ≡ s → thereafter (tried_of s m') ≡ Next = λ s e. let cs = clauses_of c.args.set in
-    shows (tried_of s m') (ap (λ x. tried_of x m') (sym e) ∙ c.attempt-shown.ensures.0
-    ∙ ap (λ x. try (unit_closure cs (mark marks x)) (λ u. unit_closure cs (mark marks (neg_ℤ x)))) (read l c.ranges.literal)) in
-    let left : (s : Shown) → c.attempt-shown.result ≡ s → TriedOk c.args.set marks c.args.sums.now m' c.attempt-shown.new.sums c.attempt-shown.new.known s = λ s e. subst (TriedOk c.args.set marks c.args.sums.now m' c.attempt-shown.new.sums c.attempt-shown.new.known) e c.attempt-shown.ensures.1 in
-    (tried Broken c.in-Broken.is, c.requires.0.state.count ∙ ap decided (sym (left Broken c.in-Broken.is)))
+    let a = c.args in
+    let r = c.requires in
+    let m = read a.literal c.ranges.literal in
+    let u = undecided a.marks.now c.mark_index-at.ensures m r.1 c.if-marks-at-ne0.false in
+    let w = c.in-Broken.ensures in
+    (tried a.set a.marks.now a.ceiling a.count a.failed a.literal u (omega (arith, r.2, c.if-count-ceiling.false)) w.0 m, r.0.state.count ∙ ap decided (sym w.1))
 
 pub returns-else-more-eq729 : goal.returns-else-more-eq729
 returns-else-more-eq729 c =
-    let marks : List ℕ = c.args.marks.now in
-    let l : ℤ = c.args.literal in
-    let Next : Walk = after (step (clauses_of c.args.set) c.args.ceiling marks c.args.count l) marks c.args.count c.args.failed (λ t k b. walked t k b) in
-    let thereafter : Step → Walk = λ s. after s marks c.args.count c.args.failed (λ t k b. walked t k b) in
-    let is_index : c.mark_index-at.result ≡ mark_index l = c.mark_index-at.ensures ∙ ap mark_index (read l c.ranges.literal) in
-    let is_place : c.mark_index-at.result ≡ place_at l = is_index ∙ index_place l c.requires.1 in
-    let undecided : T (is_decided marks l) → ⊥ = byte_open marks l c.requires.1 (ap (λ x. get_or marks x 0) (sym is_place) ∙ c.if-marks-at-ne0.false) in
-    let below : c.args.count < c.args.ceiling = omega (arith, c.requires.2, c.if-count-ceiling.false) in
-    let shows : (s : Step) → s ≡ try (unit_closure (clauses_of c.args.set) (mark marks l)) (λ u. unit_closure (clauses_of c.args.set) (mark marks (neg_ℤ l))) → thereafter s ≡ Next = λ s e. next_tried (clauses_of c.args.set) c.args.ceiling marks c.args.count l c.args.failed undecided (λ q. omega (arith, below, q)) s e in
-    let m' : List ℕ = c.attempt-shown.new.marks in
-    let tried : (s : Shown) → c.attempt-shown.result ≡ s → thereafter (tried_of s m') ≡ Next = λ s e. let cs = clauses_of c.args.set in
-    shows (tried_of s m') (ap (λ x. tried_of x m') (sym e) ∙ c.attempt-shown.ensures.0
-    ∙ ap (λ x. try (unit_closure cs (mark marks x)) (λ u. unit_closure cs (mark marks (neg_ℤ x)))) (read l c.ranges.literal)) in
-    let left : (s : Shown) → c.attempt-shown.result ≡ s → TriedOk c.args.set marks c.args.sums.now m' c.attempt-shown.new.sums c.attempt-shown.new.known s = λ s e. subst (TriedOk c.args.set marks c.args.sums.now m' c.attempt-shown.new.sums c.attempt-shown.new.known) e c.attempt-shown.ensures.1 in
-    let joined : TriedOk c.args.set marks c.args.sums.now m' c.attempt-shown.new.sums c.attempt-shown.new.known (Refuted c.in-Refuted.more) = left (Refuted c.in-Refuted.more) c.in-Refuted.is in
-    let w = joined in
-    let p = w.1 c.args.possible.now c.requires.0.possible in (
-      next_more marks m' c.args.count c.args.failed (λ x. c.if-more-eq729.false (w.0.count ∙ x)) ∙ tried (Refuted c.in-Refuted.more) c.in-Refuted.is,
-      (omega (arith, below), record { state = w.0; known = possible_known c.args.set m' p; possible = p }),
+    let a = c.args in
+    let r = c.requires in
+    let m = read a.literal c.ranges.literal in
+    let u = undecided a.marks.now c.mark_index-at.ensures m r.1 c.if-marks-at-ne0.false in
+    let below : a.count < a.ceiling = omega (arith, r.2, c.if-count-ceiling.false) in
+    let w = c.in-Refuted.ensures in
+    let p = w.1.1 a.possible.now r.0.possible in (
+      next_more a.marks.now c.attempt-shown.new.marks a.count a.failed (λ x. c.if-more-eq729.false (w.1.0.count ∙ x))
+          ∙ tried a.set a.marks.now a.ceiling a.count a.failed a.literal u below w.0 m,
+      (omega (arith, below), record { state = w.1.0; known = possible_known a.set c.attempt-shown.new.marks p; possible = p }),
     )
