@@ -3,7 +3,7 @@
 
 usage: python3 tools/respell.py [ROOT]
 
-It is run once, at the top, after /opt/rattle/port/port.py. A name that a file of specs/ or a file of lemmas declares, and that begins with a
+It is run once, at the top, after port.py of the kit. A name that a file of specs/ or a file of lemmas declares, and that begins with a
 small letter, loses its humps and its dashes: `jobCall` is `job_call`, `job-ok` is `job_ok`. So does the name `f-spec` under which a proof gives
 the theorem of a function. Functions of src/, exported names, strings and numbers keep their spelling: only whole names that were declared change.
 Where two names fall together, the definition keeps the name and the lemma ends in `_lem`.
