@@ -5,7 +5,7 @@ usage: python3 tools/respell.py [ROOT]
 
 It is run once, at the top, after port.py of the kit. A name that a file of specs/ or a file of lemmas declares, and that begins with a
 small letter, loses its humps and its dashes: `jobCall` is `job_call`, `job-ok` is `job_ok`. So does the name `f-spec` under which a proof gives
-the theorem of a function. Functions of src/, exported names, strings and numbers keep their spelling: only whole names that were declared change.
+the theorem of a function, and so do the names that a file gives to what it imports (OTHERS). Functions of src/, exported names, strings and numbers keep their spelling: only whole names that were declared change.
 Where two names fall together, the definition keeps the name and the lemma ends in `_lem`.
 """
 import os, re, sys
@@ -13,6 +13,16 @@ import os, re, sys
 DECLARED = re.compile(r"^\s*(?:(?:abbrev|unfoldable|pub|data|record) )*([^\s:(){}.,;]+) :(?: |$)")
 HUMP = re.compile(r"([a-z0-9])([A-Z])")
 NAME = re.compile(r"(?<![\w'◌-])([a-z][\w']*(?:-[\w']+)*)(?![\w'◌])")
+
+# names given by `as`, and a lemma that begins with the name of a grid
+OTHERS = {
+    "walkAlong": "walk_along",
+    "passesAlong": "passes_along",
+    "weightOf": "weight_of",
+    "shapeNumber": "number_of_shape",
+    "G-legal": "G_legal",
+}
+OTHER = re.compile(r"(?<![\w'◌-])(" + "|".join(OTHERS) + r")(?![\w'◌-])")
 
 
 def files(root, ending):
@@ -48,6 +58,7 @@ def turn(path, change):
     """Writes the file anew with its names changed; whether that changed it."""
     old = read(path)
     new = NAME.sub(lambda m: change.get(m.group(1), m.group(1)), old)
+    new = OTHER.sub(lambda m: OTHERS[m.group(1)], new)
     if new != old:
         with open(path, "w", encoding="utf-8") as f:
             f.write(new)

@@ -99,14 +99,14 @@ blank_holds ceiling outcome count o n =
 blank_rows_lem : Every blank_rows
 blank_rows_lem = blank_holds _ _ _ refl refl also blank_holds _ _ _ refl refl also blank_holds _ _ _ refl refl also blank_holds _ _ _ refl refl also none
 
-G-legal : T (is_legal G G)
+G_legal : T (is_legal G G)
 unfolding all is_legal is_digit times total cell_of G
-G-legal = tt
+G_legal = tt
 
 full_rows_lem : Every full_rows
 unfolding end_of
 full_rows_lem =
-    let w = full_solved Minimal G ((legal_iff G G).0 G-legal) 0 false default_order in
+    let w = full_solved Minimal G ((legal_iff G G).0 G_legal) 0 false default_order in
     record { outcome = rw w.1 refl; count = rw w.1 refl; marks = tt } also none
 
 -- the rows of two lists

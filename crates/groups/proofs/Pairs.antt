@@ -15,7 +15,7 @@ use Rattle.grid.specs.Counting.{all}
 use Rattle.grid.proofs.Table.{and_iff}
 use Rattle.grid.proofs.Counting.{all_iff}
 use Rattle.clauses.specs.Clauses.{clauses_of}
-use Rattle.clauses.specs.Shape.{place_of, IsShape, InSet, clause_of, shape_of, pair_index, row_index, rows_index, number_of as shapeNumber}
+use Rattle.clauses.specs.Shape.{place_of, IsShape, InSet, clause_of, shape_of, pair_index, row_index, rows_index, number_of as number_of_shape}
 use Rattle.clauses.specs.declared.ClauseSet.{ClauseSet}
 use Rattle.clauses.specs.declared.Group.{Group}
 use Rattle.clauses.specs.declared.Shape.{Shape}
@@ -129,8 +129,8 @@ module _ (p : ℕ) (h : p < 729) where
   abbrev shape : Kind → ℕ → Shape
   shape f k = NotBoth (group_at f p) (lower (index_at f p) k) (higher (index_at f p) k)
 
-  pub pair_number_lem : (f : Kind) (k : ℕ) → k < 9 → pair_number f p k ≡ shapeNumber (shape f k)
-  unfolding row_at first_number group_at shapeNumber
+  pub pair_number_lem : (f : Kind) (k : ℕ) → k < 9 → pair_number f p k ≡ number_of_shape (shape f k)
+  unfolding row_at first_number group_at number_of_shape
   pair_number_lem Cell k b = ap (λ x. 8829 + 36 * (p / 9) + x) (pair_entry_lem (index_at Cell p) k (index_at_lem p h Cell).0 b)
   pair_number_lem Column k b =
       let e = pair_entry_lem (index_at Column p) k (index_at_lem p h Column).0 b in
@@ -166,24 +166,24 @@ pair_clause s f u p h k b d = subst (λ c. Pair s c p (place_of (group_at f p) k
     g = group_at f p
 
     said : (x y : ℕ) → x < y → y < 9
-        → (shapeNumber (NotBoth g x y) < length (clauses_of s)) × (get_or (clauses_of s) (shapeNumber (NotBoth g x y)) [] ≡ negsuc (place_of g x) ∷ negsuc (place_of g y) ∷ [])
+        → (number_of_shape (NotBoth g x y) < length (clauses_of s)) × (get_or (clauses_of s) (number_of_shape (NotBoth g x y)) [] ≡ negsuc (place_of g x) ∷ negsuc (place_of g y) ∷ [])
     said x y a c =
         let w = shape_number s (NotBoth g x y) (group_is p h f, a, c) (pair_in s f u p x y) in
-        (omega (arith, w.0, set_long s), clause_at s (shapeNumber (NotBoth g x y)) w.0 ∙ ap clause_of w.1)
+        (omega (arith, w.0, set_long s), clause_at s (number_of_shape (NotBoth g x y)) w.0 ∙ ap clause_of w.1)
 
 -- a clause's number is that of its shape: a test that is computed, over all 11,988 numbers
 abbrev again : ℕ → Bool
-again n = eqb (shapeNumber (shape_of n)) n
+again n = eqb (number_of_shape (shape_of n)) n
 
 all_again : T (all 111 λ a. all 108 λ b. again (108 * a + b))
-unfolding all shapeNumber shape_of
+unfolding all number_of_shape shape_of
 all_again = tt
 
-number_again : (n : ℕ) → n < 11988 → shapeNumber (shape_of n) ≡ n
+number_again : (n : ℕ) → n < 11988 → number_of_shape (shape_of n) ≡ n
 number_again n h =
     let e : 108 * (n / 108) + n % 108 ≡ n = omega arith in
     let t = (all_iff 108 (λ b. again (108 * (n / 108) + b))).0 ((all_iff 111 (λ a. all 108 λ b. again (108 * a + b))).0 all_again (n / 108) (omega arith)) (n % 108) (omega arith) in
-    eqb→eq (shapeNumber (shape_of n)) n (subst (λ x. T (again x)) e t)
+    eqb→eq (number_of_shape (shape_of n)) n (subst (λ x. T (again x)) e t)
 
 -- and they are all that it is in
 pub record Paired (s : ClauseSet) (c p q : ℕ) : Type 0 where
@@ -198,7 +198,7 @@ pub record Paired (s : ClauseSet) (c p q : ℕ) : Type 0 where
 
 module _ (s : ClauseSet) (c : ℕ) where
   -- two places of a group, in either order
-  paired : (f : Kind) (x : ℕ) → x < 729 → PairKind s f → (i j : ℕ) → i < 9 → j < 9 → (i ≡ j → ⊥) → c ≡ shapeNumber (NotBoth (group_at f x) (lower i j) (higher i j))
+  paired : (f : Kind) (x : ℕ) → x < 729 → PairKind s f → (i j : ℕ) → i < 9 → j < 9 → (i ≡ j → ⊥) → c ≡ number_of_shape (NotBoth (group_at f x) (lower i j) (higher i j))
       → Paired s c (place_of (group_at f x) i) (place_of (group_at f x) j)
   paired f x h u i j a b d e =
       let w = place_at_lem x h f i a in
@@ -211,13 +211,13 @@ module _ (s : ClauseSet) (c : ℕ) where
         below = b;
         other = λ k. d (sym w.2 ∙ sym k);
         place = ap (λ g. place_of g j) (sym g);
-        number = e ∙ ap (λ g. shapeNumber (NotBoth g (lower i j) (higher i j))) (sym g)
-            ∙ ap (λ y. shapeNumber (NotBoth (group_at f (place_of (group_at f x) i)) (lower y j) (higher y j))) (sym w.2) ∙ sym (pair_number_lem (place_of (group_at f x) i) w.0 f j b);
+        number = e ∙ ap (λ g. number_of_shape (NotBoth g (lower i j) (higher i j))) (sym g)
+            ∙ ap (λ y. number_of_shape (NotBoth (group_at f (place_of (group_at f x) i)) (lower y j) (higher y j))) (sym w.2) ∙ sym (pair_number_lem (place_of (group_at f x) i) w.0 f j b);
       }
 
   -- the clause of a shape of two places
   abbrev Says : Shape → Type 0
-  Says h = (a b : ℕ) → InSet s h → c ≡ shapeNumber h → clause_of h ≡ negsuc a ∷ negsuc b ∷ [] → Paired s c a b × Paired s c b a
+  Says h = (a b : ℕ) → InSet s h → c ≡ number_of_shape h → clause_of h ≡ negsuc a ∷ negsuc b ∷ [] → Paired s c a b × Paired s c b a
 
   pair_says : (i j : ℕ) → i < j → j < 9 → (f : Kind) (x : ℕ) → x < 729 → Says (NotBoth (group_at f x) i j)
   unfolding clause_of
@@ -226,8 +226,8 @@ module _ (s : ClauseSet) (c : ℕ) where
       let u = in_pair s f x i j w in
       let y : place_of g i ≡ p = cc in
       let z : place_of g j ≡ q = cc in
-      let m : c ≡ shapeNumber (NotBoth g (lower i j) (higher i j)) = rw (lt-ltb i j h) e in
-      let n : c ≡ shapeNumber (NotBoth g (lower j i) (higher j i)) = rw (le-ltb j i (omega arith)) e in
+      let m : c ≡ number_of_shape (NotBoth g (lower i j) (higher i j)) = rw (lt-ltb i j h) e in
+      let n : c ≡ number_of_shape (NotBoth g (lower j i) (higher j i)) = rw (le-ltb j i (omega arith)) e in
       rw (← y, ← z) (paired f x b u i j (omega arith) l (λ d. omega arith) m, paired f x b u j i l (omega arith) (λ d. omega arith) n)
 
   shape_says : (h : Shape) → IsShape h → Says h

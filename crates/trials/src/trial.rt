@@ -6,7 +6,7 @@ ghost use Rattle.clauses.specs.Literal.{Literal};
 ghost use Rattle.clauses.specs.Clauses.{clauses_of};
 ghost use Rattle.closure.specs.Marks.{is_decided, mark, decided as decisions};
 ghost use Rattle.closure.specs.Propagation.{unit_closure};
-ghost use Rattle.closure.specs.Job.{step, walk as walkAlong, passes as passesAlong, after, try, walked};
+ghost use Rattle.closure.specs.Job.{step, walk as walk_along, passes as passes_along, after, try, walked};
 ghost use Rattle.propagation.specs.Steps.{StateOk};
 ghost use Rattle.trials.specs.Known.{Names, KnownOk, PossibleOk};
 ghost use Rattle.trials.specs.Steps.{TriedOk, tried_of, walk_of, Walking, PassOk, end_of, Literals};
@@ -173,7 +173,7 @@ fn walk(
     count: u32,
 ) -> Pass
     requires { Walking set marks.old sums.old known.old possible.now decided × Literals order.now × (count ≤ ceiling) }
-    ensures { (walk_of result marks.new ≡ walkAlong (clauses_of set) ceiling order.now marks.old count false)
+    ensures { (walk_of result marks.new ≡ walk_along (clauses_of set) ceiling order.now marks.old count false)
         × PassOk set ceiling marks.new sums.new known.new possible.now result }
 {
     let mut d = decided;
@@ -217,7 +217,7 @@ pub fn passes(
     ceiling: u32,
 ) -> Ended
     requires { StateOk set state.marks sums.old state.decided × PossibleOk set state.marks possible.now × Literals order.now }
-    ensures { (end_of result.end result.state.marks ≡ passesAlong (clauses_of set) ceiling 729 order.now state.marks 0)
+    ensures { (end_of result.end result.state.marks ≡ passes_along (clauses_of set) ceiling 729 order.now state.marks 0)
         × (result.state.decided ≡ decisions result.state.marks) }
 {
     let mut marks = state.marks;

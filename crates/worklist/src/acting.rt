@@ -3,7 +3,7 @@
 // in, and those that come to act are listed. A place that becomes true lists its pairs, and these act at once, so that between two steps none is left.
 ghost use Rattle.std.specs.Prelude.{◌≡◌, ℕ, ◌+◌, ◌*◌, ◌≤◌, ◌<◌, get_or, length, set as update};
 ghost use Rattle.groups.specs.Groups.{clause_in, first_pair, pair_table, IsRun};
-ghost use Rattle.worklist.specs.Sums.{weight as weightOf};
+ghost use Rattle.worklist.specs.Sums.{weight as weight_of};
 ghost use Rattle.worklist.specs.Acting.{Weighable, Weighed, Ready, At, Struck, Undecided, IsSign, RunListed, ListedTo, PairsReady, True, Listed, Strikes, Stepped};
 
 use clauses::ClauseSet;
@@ -22,7 +22,7 @@ pub struct Work {
 // What a place weighs by its mark.
 fn weight(mark: u8, p: usize) -> usize
     requires { p < 729 }
-    ensures { result ≡ weightOf mark p }
+    ensures { result ≡ weight_of mark p }
 {
     if mark == 0 {
         1024 + p
