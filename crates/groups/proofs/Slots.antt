@@ -14,7 +14,7 @@ use Rattle.grid.specs.House.{cell_of}
 use Rattle.grid.proofs.Table.{and_iff}
 use Rattle.grid.proofs.Counting.{all_iff}
 use Rattle.grid.proofs.House.{row_cell, column_cell, box_cell, by_house}
-use Rattle.clauses.specs.Shape.{place_of, IsGroup, InSet, shape_of, number_of as shapeNumber}
+use Rattle.clauses.specs.Shape.{place_of, IsGroup, InSet, shape_of, number_of as number_of_shape}
 use Rattle.clauses.specs.declared.ClauseSet.{ClauseSet}
 use Rattle.clauses.specs.declared.ClauseSet.TheVariants.{Minimal, Extended}
 use Rattle.clauses.specs.declared.Group.{Group}
@@ -273,10 +273,10 @@ clause_once x y a b e = ⊎_elim
 
 -- it is document 01's number of the slot's clause: a test that is computed
 abbrev number_right : ℕ → Bool
-number_right x = eqb (shapeNumber (OneOf (group_in x))) (clause_in x)
+number_right x = eqb (number_of_shape (OneOf (group_in x))) (clause_in x)
 
 numbers_right : T (all 324 number_right)
-unfolding all shapeNumber group_in clause_in
+unfolding all number_of_shape group_in clause_in
 numbers_right = tt
 
 pub slot_clause : (x : ℕ) → x < 324 → shape_of (clause_in x) ≡ OneOf (group_in x)
@@ -284,4 +284,4 @@ slot_clause x h =
     let w = slot_place x h 0 (omega arith) in
     let f = kind_at (x / 81) in
     let g : IsGroup (group_in x) = subst IsGroup (sym (slot_group (place_of (group_in x) 0) w.0 f) ∙ ap group_in w.1) (group_is (place_of (group_in x) 0) w.0 f) in
-    ap shape_of (sym (eqb→eq (shapeNumber (OneOf (group_in x))) (clause_in x) ((all_iff 324 number_right).0 numbers_right x h))) ∙ (shape_number Extended (OneOf (group_in x)) g tt).1
+    ap shape_of (sym (eqb→eq (number_of_shape (OneOf (group_in x))) (clause_in x) ((all_iff 324 number_right).0 numbers_right x h))) ∙ (shape_number Extended (OneOf (group_in x)) g tt).1
