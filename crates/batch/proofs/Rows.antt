@@ -63,15 +63,15 @@ module _ {t : Technique} {o : List ℤ} {g : List ℕ} {c : ℕ} {m₀ n₀ : Li
     here = job_end_of t o (grid_at g i) (c - (done i).count)
 
     -- the next job gets what is left of the ceiling
-    job_is : job_end_of t o (take (81 * i + 81 - 81 * i) (drop (81 * i) g)) (c - made) ≡ here
-    job_is = rw (add_sub (81 * i) 81, u.made_is)
+    job_is : job_end_of t o (grid_at g i) (c - made) ≡ here
+    job_is = rw u.made_is refl
 
     next_done : done (i + 1) ≡ more (done i) here
     unfolding done_after
     next_done = rw add-one
 
     -- the next job is done
-    pub one_more : (ms ns : List ℕ) (l : ℕ) → Filled (job_end_of t o (take (81 * i + 81 - 81 * i) (drop (81 * i) g)) (c - made)) made ms ns l
+    pub one_more : (ms ns : List ℕ) (l : ℕ) → Filled (job_end_of t o (grid_at g i) (c - made)) made ms ns l
         → Underway t o g c m₀ n₀ (i + 1) (put_mid (729 * i) (729 * i + 729 - 729 * i) marks ms) (put_mid (2 * i) (2 * i + 2 - 2 * i) numbers ns) l
     one_more ms ns l f =
         let e = job_is in

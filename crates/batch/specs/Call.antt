@@ -1,17 +1,14 @@
 -- The batch call: its answer, and what it leaves in the lent marks and in the answer list.
-use Rattle.std.specs.Prelude.{Bool, cond, ◌&&◌, List, [], ◌∷◌, ◌++◌, ℕ, zero, suc, ◌+◌, ◌*◌, ◌-◌, ◌/◌, ◌%◌, eqb, leb, ltb, ℤ, length, take, drop}
-use Rattle.grid.specs.Refusals.{refusal, on_accepted, first_bad}
+use Rattle.std.specs.Prelude.{Bool, cond, ◌&&◌, List, [], ◌∷◌, ◌++◌, ℕ, zero, suc, ◌+◌, ◌*◌, ◌-◌, ◌/◌, ◌%◌, eqb, leb, ℤ, length, take, drop, Result, Ok, Err}
+use Rattle.grid.specs.Refusals.{on_accepted, bytes_check}
 use Rattle.grid.specs.declared.Refusal.{Refusal}
-use Rattle.grid.specs.declared.Checked.{Checked}
-use Rattle.grid.specs.declared.Checked.TheVariants as check
+use Rattle.grid.specs.declared.Refusal.TheVariants.{MarksLength, BatchLength, AnswersLength}
 use Rattle.clauses.specs.Clauses.{clauses_of}
 use Rattle.clauses.specs.Models.{givens}
 use Rattle.closure.specs.Job.{End, job_end, count_of, marks_of, outcome_of}
 use Rattle.orders.specs.Order.{order_check}
-use Rattle.orders.specs.Technique.{technique_of, on_known}
+use Rattle.orders.specs.Technique.{technique_of}
 use Rattle.orders.specs.declared.technique.Technique.{Technique}
-use Rattle.batch.specs.declared.BatchAnswer.{BatchAnswer}
-use Rattle.batch.specs.declared.BatchAnswer.TheVariants.{Ran, Refused}
 
 -- 81 to 5,184 bytes in steps of 81: 1 to 64 grids end to end
 unfoldable pub is_batch : ℕ → Bool
@@ -22,17 +19,13 @@ abbrev pub grids_in : ℕ → ℕ
 grids_in bytes = bytes / 81
 
 -- the host's part, by lengths. 47: the bytes are no batch; 41: not 729 marks a grid; 48: not two numbers a grid
-unfoldable pub lent_check : ℕ → ℕ → ℕ → Checked
+unfoldable pub lent_check : ℕ → ℕ → ℕ → Result (Unit {0}) Refusal
 lent_check bytes marks numbers =
     cond (is_batch bytes)
     (cond (eqb marks (729 * grids_in bytes))
-    (cond (eqb numbers (2 * grids_in bytes)) check.Accepted (check.Refused (refusal 48 0)))
-    (check.Refused (refusal 41 0)))
-    (check.Refused (refusal 47 0))
-
--- the keyer's part. 12: the first byte of no meaning, at its place in the whole batch
-unfoldable pub bytes_check : List ℕ → Checked
-bytes_check g = cond (ltb (first_bad g) (length g)) (check.Refused (refusal 12 (first_bad g))) check.Accepted
+    (cond (eqb numbers (2 * grids_in bytes)) (Ok tt) (Err AnswersLength))
+    (Err MarksLength))
+    (Err BatchLength)
 
 -- the i-th grid of a batch, counted from 0
 abbrev pub grid_at : List ℕ → ℕ → List ℕ
@@ -66,20 +59,20 @@ module _ (t : Technique) (o : List ℤ) (g : List ℕ) (c : ℕ) where
   abbrev pub jobs_of : Done
   jobs_of = done_after (grids_in (length g))
 
--- what a batch call gives back: its answer, and the lent marks and the answer list at its return
+-- what a batch call gives back: that the jobs ran, or a refusal, and the lent marks and the answer list at its return
 abbrev pub Given : Type 0
-Given = BatchAnswer × List ℕ × List ℕ
+Given = Result (Unit {0}) Refusal × List ℕ × List ℕ
 
 -- a refusal changes nothing
 abbrev pub refused : List ℕ → List ℕ → Refusal → Given
-refused m a r = (Refused r, m, a)
+refused m a r = (Err r, m, a)
 
 -- a batch that is not refused
 abbrev pub ran : Done → Given
-ran d = (Ran, d.marks, d.numbers)
+ran d = (Ok tt, d.marks, d.numbers)
 
 -- the host's part, then the keyer's, the technique, and the operator's check of the order
 unfoldable pub batch_call : List ℕ → ℕ → List ℤ → ℕ → List ℕ → List ℕ → Given
 batch_call g n o c m a =
     on_accepted (lent_check (length g) (length m) (length a)) (refused m a) λ u. on_accepted (bytes_check g) (refused m a) λ v.
-    on_known (technique_of n) (refused m a) λ t. on_accepted (order_check o) (refused m a) λ w. ran (jobs_of t o g c)
+    on_accepted (technique_of n) (refused m a) λ t. on_accepted (order_check o) (refused m a) λ w. ran (jobs_of t o g c)

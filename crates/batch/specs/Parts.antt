@@ -1,9 +1,7 @@
 -- The jobs of a batch, each in its own part of what is lent: what is asked and said of them.
 use Rattle.std.specs.Prelude.{◌≡◌, List, ℕ, ◌+◌, ◌*◌, ◌≤◌, length}
 use Rattle.closure.specs.Job as job
-use Rattle.closure.specs.Job.{count_of, marks_of, outcome_of}
-use Rattle.trials.specs.Steps.{end_of}
-use Rattle.trials.specs.declared.trial.End.{End}
+use Rattle.closure.specs.Job.{count_of, marks_of}
 use Rattle.batch.specs.Call.{grids_in, numbers_of, Done}
 
 -- the lengths of what is lent: at most 64 grids, and 729 marks and two numbers a grid
@@ -12,11 +10,6 @@ pub record Lent (bytes marks numbers : ℕ) : Type 0 where
   pub whole : bytes ≡ 81 * grids_in bytes
   pub marks_long : marks ≡ 729 * grids_in bytes
   pub numbers_long : numbers ≡ 2 * grids_in bytes
-
--- the outcome's number and the count of a job at its end, whatever its marks
-pub record Told (e : End) (outcome count : ℕ) : Type 0 where
-  pub outcome_is : (m : List ℕ) → outcome ≡ outcome_of (end_of e m)
-  pub count_is : (m : List ℕ) → count ≡ count_of (end_of e m)
 
 -- the part of a job is filled, and its count joins the trials made before it
 pub record Filled (e : job.End) (made : ℕ) (marks numbers : List ℕ) (sum : ℕ) : Type 0 where

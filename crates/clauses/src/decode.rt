@@ -37,18 +37,12 @@ pub fn place(group: Group, k: usize) -> usize
     }
 }
 
-fn wide(b: u8) -> usize
-    ensures { result ≡ b }
-{
-    b as usize
-}
-
 // Pair u of a group.
 fn pair(group: Group, u: usize) -> Shape
     requires { u < 36 }
     ensures { result ≡ pair_of group u }
 {
-    let p = wide(PAIRS[u]);
+    let p = PAIRS[u] as usize;
     Shape::NotBoth(group, p / 10, p % 10)
 }
 
@@ -135,10 +129,8 @@ fn fill_group(group: Group, out: &mut [i16])
     requires { IsGroup group × (length out.old ≡ 9) }
     ensures { out.new ≡ padded (clause_of (Shape.OneOf group)) }
 {
-    let mut k = 0;
-    while k < 9 {
+    for k in 0..9 {
         out[k] = literal::positive(place(group, k));
-        k += 1;
     }
 }
 
@@ -147,13 +139,9 @@ fn fill_pair(first: usize, second: usize, out: &mut [i16])
     requires { (first < 729) × (second < 729) × (length out.old ≡ 9) }
     ensures { out.new ≡ padded (negsuc first ∷ negsuc second ∷ []) }
 {
-    out[0] = literal::negative(first);
-    out[1] = literal::negative(second);
-    let mut k = 2;
-    while k < 9 {
-        out[k] = 0;
-        k += 1;
-    }
+    let both = [literal::negative(first), literal::negative(second)];
+    out[..2].copy_from_slice(&both);
+    out[2..].fill(0);
 }
 
 // The literals of a clause, then zeros.

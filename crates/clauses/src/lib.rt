@@ -1,6 +1,6 @@
 // Literals and the two numbered clause sets.
 //
-//     clause        the clause call: a set's clause by its number, refusals 43 to 45
+//     clause        the clause call: a set's clause by its number
 //     literal       literals as signed 16-bit numbers
 //     decode        a clause's group and places by arithmetic on its number
 #![tactic(auto)]
@@ -10,13 +10,12 @@ pub mod literal;
 
 ghost use Rattle.std.specs.Prelude.{◌≡◌, length};
 ghost use Rattle.clauses.specs.Clauses.{clauses_of};
-ghost use Rattle.clauses.specs.Call.{clause_given, clause_call};
-ghost use Rattle.grid.specs.Refusals.{refusal};
+ghost use Rattle.clauses.specs.Call.{set_of, clause_given, clause_call};
 
 use grid::Refusal;
 
 // The clause sets of document 01: 1 is minimal, 2 is extended.
-#[derive(Clone, Copy)]
+#[derive(Clone, Copy, Debug, PartialEq, Eq)]
 pub enum ClauseSet {
     Minimal,
     Extended,
@@ -36,18 +35,18 @@ pub enum Shape {
     NotBoth(Group, usize, usize),
 }
 
-// What the clause call answers: the clause's length, 2 or 9, or a refusal.
-#[derive(Drop)]
-pub enum ClauseAnswer {
-    Length(usize),
-    Refused(Refusal),
-}
+impl TryFrom<u32> for ClauseSet {
+    type Error = Refusal;
 
-// A refusal of the host, who gave no place.
-fn refused(number: u32) -> ClauseAnswer
-    ensures { result ≡ ClauseAnswer.Refused (refusal number 0) }
-{
-    ClauseAnswer::Refused(Refusal { number, place: 0 })
+    ghost try_from_gives = { λ number answer. answer ≡ set_of number };
+
+    fn try_from(number: u32) -> Result<Self, Refusal> {
+        match number {
+            1 => Ok(ClauseSet::Minimal),
+            2 => Ok(ClauseSet::Extended),
+            _ => Err(Refusal::ClauseSet),
+        }
+    }
 }
 
 // How many clauses a set has.
@@ -61,29 +60,25 @@ pub fn clause_count(set: ClauseSet) -> usize
 }
 
 // The clause of a number of a set.
-fn clause_of(set: ClauseSet, n: usize, out: &mut [i16]) -> ClauseAnswer
+fn clause_of(set: ClauseSet, n: usize, out: &mut [i16]) -> Result<usize, Refusal>
     ensures { (result, out.new) ≡ clause_given (clauses_of set) n out.old }
 {
     if clause_count(set) <= n {
-        return refused(44);
+        return Err(Refusal::ClauseNumber);
     }
     if out.len() != 9 {
-        return refused(45);
+        return Err(Refusal::LiteralsLength);
     }
     let s = decode::shape(n);
     decode::fill(s, out);
-    ClauseAnswer::Length(decode::length_of(s))
+    Ok(decode::length_of(s))
 }
 
-// The clause call: the literals in index order, then zeros, and the length.
-pub fn clause(set: u32, number: u32, literals: &mut [i16]) -> ClauseAnswer
+// The clause call: the literals in index order, then zeros, and the clause's length, 2 or 9. Set and number come as numbers from hosts.
+#[tactic(auto, unfolding(crate::specs::Call::clause_call))]
+pub fn clause(set: u32, number: u32, literals: &mut [i16]) -> Result<usize, Refusal>
     ensures { (result, literals.new) ≡ clause_call set number literals.old }
 {
-    if set == 1 {
-        return clause_of(ClauseSet::Minimal, number as usize, literals);
-    }
-    if set == 2 {
-        return clause_of(ClauseSet::Extended, number as usize, literals);
-    }
-    refused(43)
+    let named = ClauseSet::try_from(set)?;
+    clause_of(named, number as usize, literals)
 }

@@ -2,24 +2,23 @@
 ghost use Rattle.std.specs.Prelude.{◌≡◌, suc, ◌<◌, pos, negsuc, nat_abs};
 ghost use Rattle.clauses.specs.Literal.{is_literal, negation, mark_index};
 
+// The number of the literal's variable.
 pub fn magnitude(l: i16) -> usize
     ensures { result ≡ nat_abs l }
 {
-    if l < 0 {
-        ((-1 - l) as usize) + 1
-    } else {
-        l as usize
-    }
+    l.unsigned_abs() as usize
 }
 
+// Whether there is such a literal.
+#[tactic(auto, unfolding(crate::specs::Literal::is_literal))]
 pub fn is_literal(l: i16) -> bool
     ensures { result ≡ is_literal l }
 {
     let m = magnitude(l);
-    if m < 1 { false } else { m <= 729 }
+    1 <= m && m <= 729
 }
 
-// The negation of a literal; 0 for what is none.
+// The negation of a literal; 0 for what is none. 0 is no literal and is its own negation, so an Option would tell nothing more.
 pub fn negated(l: i16) -> i16
     ensures { result ≡ negation l }
 {
@@ -30,8 +29,7 @@ pub fn negated(l: i16) -> i16
 pub fn mark_index(l: i16) -> usize
     ensures { result ≡ mark_index l }
 {
-    let m = magnitude(l);
-    if m == 0 { 0 } else { m - 1 }
+    magnitude(l).saturating_sub(1)
 }
 
 // The literal that makes the variable at a mark's place true.

@@ -9,6 +9,7 @@ use native.Mathlib.Omega.{arith}
 use lib.Dec.{T, eqb, T_not, not_T}
 use lib.IntN.{ℤ, pos, negsuc}
 use lib.ListN.{get_or}
+use Rattle.std.specs.Prelude.{Ok}
 use Rattle.grid.specs.Counting.{all}
 use Rattle.grid.specs.Grid.{byte, is_digit}
 use Rattle.grid.specs.Completion.{Legal}
@@ -25,8 +26,8 @@ use Rattle.closure.specs.Closure.{Contradiction, With, UnitClosed}
 use Rattle.closure.specs.Marks.{has, IsMarks}
 use Rattle.closure.proofs.Closure.{model_rules, model_consistent}
 use Rattle.closure.proofs.Marks.{has_literal}
-use Rattle.propagation.specs.Steps.{ClosesTo}
-use Rattle.propagation.specs.declared.close.Reached.TheVariants.{Decided}
+use Rattle.worklist.specs.declared.acting.State.{State}
+use Rattle.propagation.specs.Steps.{ComesTo}
 use Rattle.completions.specs.Completions.{those, completions, InOrder}
 use Rattle.completions.specs.Left.{agrees, left}
 use Rattle.completions.proofs.ByteOrder.{in_order_same, in_order_as, in_order_none, in_order_those}
@@ -92,7 +93,7 @@ module _ (G : ℤ → Type 0) where
   clash_fits k b f = model_consistent (truth_of b) cs (model b f) false G f.keeps k
 
   -- and what G closes to fits the same grids
-  pub closed_fits : {m a : List ℕ} {d : ℕ} → ClosesTo Extended G m a (Decided d) → (b : List ℕ) → Fits G b ↔ Fits (Of m) b
+  pub closed_fits : {st : State} → ComesTo Extended G (Ok st) → (b : List ℕ) → Fits G b ↔ Fits (Of st.marks) b
   closed_fits s b = (
     (λ f. record { legal = f.legal; keeps = λ l y. s.answer.within l y (holds (truth_of b)) (model_rules (truth_of b) cs (model b f) false) f.keeps }),
     λ f. record { legal = f.legal; keeps = λ l g. f.keeps l (s.answer.holds l g) },
@@ -131,9 +132,9 @@ module _ (g : List ℕ) where
   pub start_none : Contradiction (Least (UnitClosed cs) Given) → completions g ≡ []
   start_none k = in_order_same (Legal g) (Fits Given) (completions g) [] (completions_in_order g) (in_order_none (Fits Given) (clash_fits Given k)) given_fits
 
-  pub start_left : {m a : List ℕ} {d : ℕ} → ClosesTo Extended Given m a (Decided d) → completions g ≡ left m
-  start_left {m} s =
-      in_order_same (Legal g) (Fits (Of m)) (completions g) (left m) (completions_in_order g) (left_in_order m s.state.marks.marks)
+  pub start_left : {st : State} → ComesTo Extended Given (Ok st) → completions g ≡ left st.marks
+  start_left {st} s =
+      in_order_same (Legal g) (Fits (Of st.marks)) (completions g) (left st.marks) (completions_in_order g) (left_in_order st.marks s.state.marks.marks)
       (λ b. let p = given_fits b in let q = closed_fits Given s b in ((λ l. q.0 (p.0 l)), λ f. p.1 (q.1 f)))
 
 -- a cell of which a digit is marked has that digit in each grid that fits

@@ -33,7 +33,7 @@ last_test true true c t x e = absurd (subst T e tt)
 last_test true false c t x e = t
 last_test false b c t x e = absurd x
 
-module _ (m : List ℕ) (h : ℕ) (cells digits : List ℕ) (house : h < 27) (r : Bool) (e : r ≡ all 81 (confined_at m h cells digits)) (t : r ≡ true) where
+module _ (m : List ℕ) (h : ℕ) (cells digits : List Bool) (house : h < 27) (r : Bool) (e : r ≡ all 81 (confined_at m h cells digits)) (t : r ≡ true) where
   -- a digit that is not chosen is false in each cell that is
   struck : (i d : ℕ) → i < 9 → d < 9 → T (chosen cells i) → chosen digits d ≡ false → get_or m (place_of (House h d) i) 0 ≡ 2
   struck i d a b u n =

@@ -1,1 +1,2 @@
 mod Crowds
+mod Scans

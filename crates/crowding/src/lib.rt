@@ -12,19 +12,16 @@ ghost use Rattle.crowding.specs.Crowding.{chosen, confined_at};
 
 use clauses::Group;
 use clauses::decode::place;
-use groups::wide;
 
 // The digits left in a cell, a bit for each.
 fn digits_in(marks: &[u8; 729], cell: usize) -> u16
     requires { cell < 81 }
 {
     let mut digits = 0u16;
-    let mut k = 0;
-    while k < 9 {
+    for k in 0..9 {
         if marks[9 * cell + k] != 2 {
-            digits = digits | 1u16 << k;
+            digits |= 1 << k;
         }
-        k += 1;
     }
     digits
 }
@@ -33,10 +30,8 @@ fn digits_in(marks: &[u8; 729], cell: usize) -> u16
 fn join(unions: &mut [u16; 512], half: usize, digits: u16)
     requires { half ≤ 256 }
 {
-    let mut t = 0;
-    while t < half {
+    for t in 0..half {
         unions[half + t] = unions[t] | digits;
-        t += 1;
     }
 }
 
@@ -45,15 +40,9 @@ fn unions_in(marks: &[u8; 729], house: usize) -> [u16; 512]
     requires { house < 27 }
 {
     let mut unions = [0u16; 512];
-    let mut half = 1;
-    let mut i = 0;
-    while i < 9 {
-        if half <= 256 {
-            let cell = place(Group::House(house, 0), i) / 9;
-            join(&mut unions, half, digits_in(marks, cell));
-            half = 2 * half;
-        }
-        i += 1;
+    for i in 0..9 {
+        let cell = place(Group::House(house, 0), i) / 9;
+        join(&mut unions, 1 << i, digits_in(marks, cell));
     }
     unions
 }
@@ -61,82 +50,53 @@ fn unions_in(marks: &[u8; 729], house: usize) -> [u16; 512]
 // How many bits each number has.
 fn bit_counts() -> [u32; 512] {
     let mut counts = [0u32; 512];
-    let mut n = 0;
-    while n < 512 {
-        counts[n] = u32::count_ones(n as u32);
-        n += 1;
+    for (n, count) in counts.iter_mut().enumerate() {
+        *count = n.count_ones();
     }
     counts
 }
 
-// A choice of cells with fewer digits than cells, or that of none.
-fn crowd(unions: &[u16; 512], counts: &[u32; 512]) -> usize
-    ensures { result < 512 }
-{
-    let mut n = 0;
-    while n < 512 {
-        if counts[wide(unions[n]) % 512] < counts[n] {
-            return n;
-        }
-        n += 1;
-    }
-    0
+// The bits of a number, one by one.
+fn bits_of(n: usize) -> [bool; 9] {
+    std::array::from_fn(|k| n >> k & 1 == 1)
 }
 
-// The bits of a number, one by one.
-fn bits_of(n: usize) -> [u8; 9] {
-    let mut bits = [0u8; 9];
-    let mut k = 0;
-    while k < 9 {
-        bits[k] = ((n >> k) % 2) as u8;
-        k += 1;
-    }
-    bits
+// Some cells of a house and some digits: those are chosen for which there is a true.
+#[derive(Drop)]
+struct Choice {
+    cells: [bool; 9],
+    digits: [bool; 9],
+}
+
+// A choice of cells with fewer digits than cells.
+fn crowd(marks: &[u8; 729], counts: &[u32; 512], house: usize) -> Option<Choice>
+    requires { house < 27 }
+{
+    let unions = unions_in(marks, house);
+    let n = (0..512).find(|n| counts[usize::from(unions[*n]) % 512] < counts[*n])?;
+    Some(Choice {
+        cells: bits_of(n),
+        digits: bits_of(usize::from(unions[n])),
+    })
 }
 
 // How many are chosen.
-fn count(list: &[u8; 9]) -> usize
+fn count(list: &[bool; 9]) -> usize
     ensures { result ≡ tally 9 (chosen list.now) }
 {
-    let mut n = 0;
-    let mut k = 0;
-    while k < 9 {
-        if list[k] == 1 {
-            n += 1;
-        }
-        k += 1;
-    }
-    n
-}
-
-// Whether a place is false, where its cell is chosen and its digit is not.
-fn confined_at(cell: u8, digit: u8, mark: u8) -> bool
-    ensures { result ≡ (not (eqb cell 1) || (eqb digit 1 || eqb mark 2)) }
-{
-    if cell != 1 {
-        return true;
-    }
-    if digit == 1 {
-        return true;
-    }
-    mark == 2
+    list.iter().filter(|on| **on).count()
 }
 
 // Whether the cells of a house that are chosen have no digit left but those that are chosen.
-fn confined(marks: &[u8; 729], house: usize, cells: &[u8; 9], digits: &[u8; 9]) -> bool
+fn confined(marks: &[u8; 729], house: usize, choice: &Choice) -> bool
     requires { house < 27 }
-    ensures { result ≡ all 81 (confined_at marks.now house cells.now digits.now) }
+    ensures { result ≡ all 81 (confined_at marks.now house choice.now.cells choice.now.digits) }
 {
-    let mut n = 0;
-    while n < 81 {
+    (0..81).all(|n| {
         let i = n / 9;
         let d = n % 9;
-        if !confined_at(cells[i], digits[d], marks[place(Group::House(house, d), i)]) {
-            return false;
-        }
-        n += 1;
-    }
-    true
+        !choice.cells[i] || choice.digits[d] || marks[place(Group::House(house, d), i)] == 2
+    })
 }
 
 // Whether a house is found to be crowded.
@@ -144,14 +104,10 @@ fn crowded_in(marks: &[u8; 729], counts: &[u32; 512], house: usize) -> bool
     requires { IsMarks marks.now × (house < 27) }
     ensures { result ≡ true → left marks.now ≡ List.[] }
 {
-    let unions = unions_in(marks, house);
-    let n = crowd(&unions, counts);
-    let cells = bits_of(n);
-    let digits = bits_of(wide(unions[n]));
-    if count(&digits) < count(&cells) {
-        confined(marks, house, &cells, &digits)
-    } else {
-        false
+    match crowd(marks, counts, house) {
+        Some(choice) => count(&choice.digits) < count(&choice.cells)
+            && confined(marks, house, &choice),
+        None => false,
     }
 }
 
@@ -161,12 +117,5 @@ pub fn crowded(marks: &[u8; 729]) -> bool
     ensures { result ≡ true → left marks.now ≡ List.[] }
 {
     let counts = bit_counts();
-    let mut house = 0;
-    while house < 27 {
-        if crowded_in(marks, &counts, house) {
-            return true;
-        }
-        house += 1;
-    }
-    false
+    (0..27).any(|house| crowded_in(marks, &counts, house))
 }

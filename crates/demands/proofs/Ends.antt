@@ -8,7 +8,8 @@ use Prim.Native.Nat.{ℕ, suc, ◌+◌, ◌*◌, ◌≤◌}
 use native.Mathlib.Omega.{arith}
 use lib.Dec.{eqb}
 use lib.IntN.{ℤ, pos}
-use Rattle.grid.specs.declared.Checked.TheVariants.{Accepted}
+use Rattle.std.specs.Prelude.{Ok}
+use Rattle.grid.specs.Refusals.{grid_check}
 use Rattle.clauses.specs.Literal.{Literal}
 use Rattle.clauses.specs.Clauses.{clauses_of}
 use Rattle.clauses.specs.Models.{givens}
@@ -21,15 +22,16 @@ use Rattle.closure.proofs.Job.{JobOk, job_ok}
 use Rattle.closure.proofs.Order.{order_covers}
 use Rattle.closure.proofs.ClauseSets.{well_formed}
 use Rattle.orders.specs.Order.{order_check}
-use Rattle.inference.specs.Call.{outcome_number, Given, finished, job_of}
-use Rattle.demands.specs.Jobs.{Ran, RulesOf, IsGiven}
 use Rattle.orders.specs.declared.technique.Technique.{Technique}
-use Rattle.inference.specs.declared.job.JobAnswer.TheVariants.{Finished}
-use Rattle.inference.specs.declared.job.Outcome.{Outcome}
-use Rattle.inference.specs.declared.job.Outcome.TheVariants.{Solved, Open, Stopped, Contradiction}
 use Rattle.orders.proofs.Orders.{accepted_order}
+use Rattle.trials.specs.Steps.{end, outcome_number}
+use Rattle.trials.specs.declared.trial.Outcome.{Outcome}
+use Rattle.trials.specs.declared.trial.Outcome.TheVariants.{Solved, Open, Stopped, Contradiction}
+use Rattle.inference.specs.Call.{finished, job_of}
+use Rattle.demands.specs.Jobs.{Ran, RulesOf, IsGiven}
+use Rattle.demands.proofs.Checks.{same_answer}
 
-module _ (o : List ℤ) (e : order_check o ≡ Accepted) where
+module _ (o : List ℤ) (e : order_check o ≡ Ok tt) where
   -- an order that is accepted has no literal twice,
   accepted_once : NoneTwice o
   accepted_once i j x y q = let a = accepted_order o e in a.2 i j x (omega (arith, a.0)) q
@@ -57,23 +59,58 @@ pub record Ended (r : Ran) : Type 0 where
   pub count : count_of (end_of r) ≡ r.count
   pub marks : marks_of (end_of r) ≡ r.marks
 
--- an answer's parts
-answer_parts : {a b : Outcome} {n k : ℕ} {m t : List ℕ} → ◌≡◌ {A = Given} (Finished a n, m) (Finished b k, t)
-    → (outcome_number a ≡ outcome_number b) × (n ≡ k) × (m ≡ t)
-answer_parts {a} {b} e = let f = ap (λ p. p.0) e in let same : a ≡ b = cc in (ap outcome_number same, (cc), ap (λ p. p.1) e)
+-- the outcome of an end
+abbrev pub ending : End → Outcome
+ending (solved m n) = Solved
+ending (opened m n) = Open
+ending (stopped m n) = Stopped
+ending (contradiction n) = Contradiction
 
-end_told : (e : End) (a : Outcome) (n : ℕ) (m : List ℕ) → finished e ≡ (Finished a n, m)
-    → (outcome_of e ≡ outcome_number a) × (count_of e ≡ n) × (marks_of e ≡ m)
-end_told (solved t k) a n m e = answer_parts e
-end_told (opened t k) a n m e = answer_parts e
-end_told (stopped t k) a n m e = answer_parts e
-end_told (contradiction k) a n m e = answer_parts e
+ending_number : (e : End) → outcome_of e ≡ outcome_number (ending e)
+ending_number (solved m n) = refl
+ending_number (opened m n) = refl
+ending_number (stopped m n) = refl
+ending_number (contradiction n) = refl
+
+-- a job gives back what its end says
+finished_is : (e : End) → finished e ≡ (Ok (end (ending e) (count_of e)), marks_of e)
+finished_is (solved m n) = refl
+finished_is (opened m n) = refl
+finished_is (stopped m n) = refl
+finished_is (contradiction n) = refl
+
+pub job_gives : (t : Technique) (g : List ℕ) (o : List ℤ) (c : ℕ)
+    → let e = job_end (clauses_of t.set) c t.trials o (givens g) in job_of t g o c ≡ (Ok (end (ending e) (count_of e)), marks_of e)
+unfolding job_of
+job_gives t g o c = finished_is (job_end (clauses_of t.set) c t.trials o (givens g))
+
+-- the job of a technique whose inputs are accepted, as one that ran
+abbrev pub ran_of : (t : Technique) (g : List ℕ) (o : List ℤ) (c : ℕ) → grid_check g ≡ Ok tt → order_check o ≡ Ok tt → Ran
+ran_of t g o c a b =
+    let e = job_end (clauses_of t.set) c t.trials o (givens g) in
+    record {
+      grid = g;
+      technique = t;
+      order = o;
+      ceiling = c;
+      outcome = ending e;
+      count = count_of e;
+      marks = marks_of e;
+      grid_accepted = a;
+      order_accepted = b;
+      gave = job_gives t g o c;
+    }
 
 pub ran_ended : (r : Ran) → Ended r
-unfolding job_of
 ran_ended r =
-    let a = end_told (end_of r) r.outcome r.count r.marks r.gave in
-    record { ok = end_ok r.order r.order_accepted r.technique r.grid r.ceiling 729 (omega arith) (λ m h. omega arith); outcome = a.0; count = a.1; marks = a.2 }
+    let a = sym (job_gives r.technique r.grid r.order r.ceiling) ∙ r.gave in
+    let same = same_answer (ap (λ p. p.0) a) in
+    record {
+      ok = end_ok r.order r.order_accepted r.technique r.grid r.ceiling 729 (omega arith) (λ m h. omega arith);
+      outcome = ending_number (end_of r) ∙ ap (λ x. outcome_number x.outcome) same;
+      count = ap (λ x. x.count) same;
+      marks = ap (λ p. p.1) a;
+    }
 
 -- the outcome of a number
 abbrev outcome_at : ℕ → Outcome

@@ -3,35 +3,33 @@
 -- Assumes nothing.
 use mathlib.Core.Path.{◌≡◌, refl, ap, sym, subst, ◌∙◌}
 use mathlib.Core.Logic.{⊎_elim}
+use mathlib.Core.Bool.{Bool, true, false}
 use mathlib.Core.List.Memᴰ
 use mathlib.Core.List.{List, [], ◌∷◌, Memᴰ}
 use Prim.Native.Nat.{ℕ, ◌+◌, ◌-◌, ◌≤◌}
 use native.Mathlib.Omega.{arith}
 use lib.IntN.{ℤ}
 use lib.ListN.{get_or}
+use Rattle.std.specs.Prelude.{Ok}
 use Rattle.grid.specs.Grid.{byte}
 use Rattle.grid.specs.Completion.{Legal}
-use Rattle.grid.specs.Refusals.{grid_check}
-use Rattle.grid.specs.declared.Checked.TheVariants.{Accepted}
 use Rattle.clauses.specs.declared.ClauseSet.{ClauseSet}
 use Rattle.clauses.specs.declared.ClauseSet.TheVariants.{Minimal, Extended}
 use Rattle.closure.specs.Job.{End, solved, opened, stopped, contradiction, outcome_of}
-use Rattle.orders.specs.Order.{order_check}
+use Rattle.orders.specs.Technique as technique
 use Rattle.orders.specs.Technique.{SetWithin}
 use Rattle.orders.specs.declared.technique.Technique.{Technique}
-use Rattle.inference.specs.declared.job.Outcome.TheVariants.{Solved, Stopped}
+use Rattle.trials.specs.declared.trial.Outcome.TheVariants.{Solved, Stopped}
 use Rattle.completions.specs.Completions.{Rising, completions}
 use Rattle.completions.proofs.Completions.{completions_in_order}
-use Rattle.grading.specs.Grade.{after_job, rate_from, stages, Given, grade_by, grade_of}
-use Rattle.grading.specs.declared.Stage.{Stage}
+use Rattle.grading.specs.Grade.{number_of, rating, ladder, after_job, rate_from, grade_by, grade_of}
 use Rattle.grading.specs.declared.Rating.{Rating}
-use Rattle.grading.specs.declared.GradeAnswer.TheVariants.{Graded}
 use Rattle.grading.proofs.Grading.{job_at}
-use Rattle.demands.specs.Jobs.{Ran, IsSolved, IsStopped}
-use Rattle.demands.proofs.Ends.{outcome_iff}
-use Rattle.demands.proofs.JobCalls.{job_some}
+use Rattle.demands.specs.Jobs.{IsSolved, IsStopped}
+use Rattle.demands.proofs.Checks.{same_answer}
+use Rattle.demands.proofs.Ends.{ran_of, outcome_iff}
 use Rattle.demands.proofs.Jobs.{answers}
-use Rattle.demands.specs.Gradings.{Grading}
+use Rattle.demands.specs.Gradings.{Grading, verdict_of}
 use Rattle.demands.specs.DemandThree.{HasGivens, OfGradings}
 use Rattle.demands.proofs.JobsCompared.{of_jobs}
 
@@ -45,52 +43,57 @@ legal_carries g h b same l =
       once = l.once;
     }
 
--- the job of a technique, as one that ran
-module _ (g : List ℕ) (o : List ℤ) (a : grid_check g ≡ Accepted) (b : order_check o ≡ Accepted) where
-  ran_of : Technique → ℕ → Ran
-  ran_of u c =
-      let j = job_some u g o c in
-      record { grid = g; technique = u; order = o; ceiling = c; outcome = j.0; count = j.1; marks = j.2; grid_accepted = a; order_accepted = b; gave = j.3 }
-
 within_itself : (s : ClauseSet) → SetWithin s s
 within_itself Minimal = tt
 within_itself Extended = tt
 
--- verdicts that rise, none above 5
-abbrev From : ℕ → List Stage → Type 0
+-- a technique's number is at most 4
+pub number_low : (t : Technique) → technique.number_of t ≤ 4
+number_low t = go t.set t.trials
+  where
+    go : (s : ClauseSet) (b : Bool) → technique.number_in s b ≤ 4
+    go Minimal false = omega arith
+    go Extended false = omega arith
+    go Minimal true = omega arith
+    go Extended true = omega arith
+
+-- the number of a rating's verdict
+abbrev pub verdict_in : Rating → ℕ
+verdict_in r = number_of r.verdict
+
+-- techniques whose numbers rise, all at least v
+abbrev From : ℕ → List Technique → Type 0
 From v [] = Unit {0}
-From v (s ∷ ss) = (v ≤ s.verdict) × From v ss
+From v (s ∷ ss) = (v ≤ technique.number_of s) × From v ss
 
-abbrev Climbs : List Stage → Type 0
+abbrev Climbs : List Technique → Type 0
 Climbs [] = Unit {0}
-Climbs (s ∷ ss) = (s.verdict ≤ 5) × From s.verdict ss × Climbs ss
+Climbs (s ∷ ss) = From (technique.number_of s) ss × Climbs ss
 
--- no verdict is below those of the stages
-least_verdict : (g : List ℕ) (o : List ℤ) (c v : ℕ) (ss : List Stage) (t : ℕ) → v ≤ 5 → From v ss → v ≤ (rate_from g o c ss t).verdict
+-- no verdict is below those of the techniques
+least_verdict : (g : List ℕ) (o : List ℤ) (c v : ℕ) (ss : List Technique) (t : ℕ) → v ≤ 5 → From v ss → v ≤ verdict_in (rate_from g o c ss t)
 unfolding rate_from
 least_verdict g o c v [] t h f = h
 least_verdict g o c v (s ∷ ss) t h f = go (job_at g o c s t) (λ k. least_verdict g o c v ss k h f.1)
   where
-    go : (e : End) → ((k : ℕ) → v ≤ (rate_from g o c ss k).verdict) → v ≤ (after_job e s.verdict t (rate_from g o c ss)).verdict
+    go : (e : End) → ((k : ℕ) → v ≤ verdict_in (rate_from g o c ss k)) → v ≤ verdict_in (after_job e s t (rate_from g o c ss))
     go (solved m n) r = f.0
     go (stopped m n) r = omega arith
     go (opened m n) r = r (t + n)
     go (contradiction n) r = r (t + n)
 
 module _ (first second : Grading) (given : HasGivens first.grid second.grid) (b : List ℕ) (legal : Legal second.grid b) where
-  abbrev job_of_first : Stage → ℕ → End
+  abbrev job_of_first : Technique → ℕ → End
   job_of_first = job_at first.grid first.order first.ceiling
 
-  abbrev job_of_second : Stage → ℕ → End
+  abbrev job_of_second : Technique → ℕ → End
   job_of_second = job_at second.grid second.order second.ceiling
 
   -- a technique that solves the first, and is not stopped in the second, solves it too
-  solves : (s : Stage) (t k : ℕ) → outcome_of (job_of_first s t) ≡ 1 → (outcome_of (job_of_second s k) ≡ 3 → ⊥) → outcome_of (job_of_second s k) ≡ 1
-  unfolding ran_of
-  solves s t k e n =
-      let u = s.technique in
-      let r = ran_of first.grid first.order first.grid_accepted first.order_accepted u (first.ceiling - t) in
-      let q = ran_of second.grid second.order second.grid_accepted second.order_accepted u (second.ceiling - k) in
+  solves : (u : Technique) (t k : ℕ) → outcome_of (job_of_first u t) ≡ 1 → (outcome_of (job_of_second u k) ≡ 3 → ⊥) → outcome_of (job_of_second u k) ≡ 1
+  solves u t k e n =
+      let r = ran_of u first.grid first.order (first.ceiling - t) first.grid_accepted first.order_accepted in
+      let q = ran_of u second.grid second.order (second.ceiling - k) second.grid_accepted second.order_accepted in
       let on : IsStopped q → ⊥ = λ x. n ((outcome_iff q Stopped).1 x) in
       let done : IsSolved r = (outcome_iff r Solved).0 e in
       let whole : IsStopped r → ⊥ = λ x. let z = (outcome_iff r Stopped).1 x in omega (arith, e, z) in
@@ -100,24 +103,26 @@ module _ (first second : Grading) (given : HasGivens first.grid second.grid) (b 
       (of_jobs r q given (within_itself u.set, λ x. x) on).0 in
       (outcome_iff q Solved).1 all
 
-  abbrev rate_first : List Stage → ℕ → Rating
+  abbrev rate_first : List Technique → ℕ → Rating
   rate_first = rate_from first.grid first.order first.ceiling
 
-  abbrev rate_second : List Stage → ℕ → Rating
+  abbrev rate_second : List Technique → ℕ → Rating
   rate_second = rate_from second.grid second.order second.ceiling
 
   -- so the second's verdict is no higher
-  no_higher : (ss : List Stage) (t k : ℕ) → Climbs ss → (rate_first ss t).verdict ≤ 5 → ((rate_second ss k).verdict ≡ 6 → ⊥) → (rate_second ss k).verdict ≤ (rate_first ss t).verdict
+  no_higher : (ss : List Technique) (t k : ℕ) → Climbs ss → verdict_in (rate_first ss t) ≤ 5 → (verdict_in (rate_second ss k) ≡ 6 → ⊥)
+      → verdict_in (rate_second ss k) ≤ verdict_in (rate_first ss t)
   unfolding rate_from
   no_higher [] t k c h n = omega arith
   no_higher (s ∷ ss) t k c h d =
-      go (job_of_first s t) (job_of_second s k) (solves s t k) (λ x y. no_higher ss x y c.2) (λ x. least_verdict first.grid first.order first.ceiling s.verdict ss x c.0 c.1) h d
+      go (job_of_first s t) (job_of_second s k) (solves s t k) (λ x y. no_higher ss x y c.1)
+      (λ x. least_verdict first.grid first.order first.ceiling (technique.number_of s) ss x (omega (arith, number_low s)) c.0) h d
     where
       go : (e f : End) → (outcome_of e ≡ 1 → (outcome_of f ≡ 3 → ⊥) → outcome_of f ≡ 1)
-          → ((x y : ℕ) → (rate_first ss x).verdict ≤ 5 → ((rate_second ss y).verdict ≡ 6 → ⊥) → (rate_second ss y).verdict ≤ (rate_first ss x).verdict)
-          → ((x : ℕ) → s.verdict ≤ (rate_first ss x).verdict)
-          → (after_job e s.verdict t (rate_first ss)).verdict ≤ 5 → ((after_job f s.verdict k (rate_second ss)).verdict ≡ 6 → ⊥)
-          → (after_job f s.verdict k (rate_second ss)).verdict ≤ (after_job e s.verdict t (rate_first ss)).verdict
+          → ((x y : ℕ) → verdict_in (rate_first ss x) ≤ 5 → (verdict_in (rate_second ss y) ≡ 6 → ⊥) → verdict_in (rate_second ss y) ≤ verdict_in (rate_first ss x))
+          → ((x : ℕ) → technique.number_of s ≤ verdict_in (rate_first ss x))
+          → verdict_in (after_job e s t (rate_first ss)) ≤ 5 → (verdict_in (after_job f s k (rate_second ss)) ≡ 6 → ⊥)
+          → verdict_in (after_job f s k (rate_second ss)) ≤ verdict_in (after_job e s t (rate_first ss))
       go (stopped m n) f w r l h d = absurd (omega (arith, h))
       go (solved m n) (solved m' n') w r l h d = omega arith
       go (solved m n) (stopped m' n') w r l h d = absurd (d refl)
@@ -132,31 +137,33 @@ module _ (first second : Grading) (given : HasGivens first.grid second.grid) (b 
       go (contradiction n) (opened m' n') w r l h d = r (t + n) (k + n') h d
       go (contradiction n) (contradiction n') w r l h d = r (t + n) (k + n') h d
 
--- an answer's parts
-pub answer_parts : {v w t s : ℕ} {a b : List ℕ} → ◌≡◌ {A = Given} (Graded v t, a) (Graded w s, b) → (v ≡ w) × (a ≡ b)
-answer_parts e = let f = ap (λ p. p.0) e in (cc, ap (λ p. p.1) e)
-
 -- a grading with one completion
 pub record One (r : Grading) : Type 0 where
   pub completion : completions r.grid ≡ r.completion ∷ []
-  pub verdict : r.verdict ≡ (rate_from r.grid r.order r.ceiling stages 0).verdict
+  pub rating : rating r.verdict r.trials ≡ rate_from r.grid r.order r.ceiling ladder 0
 
-by_cases : (r : Grading) (bs : List (List ℕ)) → bs ≡ completions r.grid
-    → grade_by bs (λ u. rate_from r.grid r.order r.ceiling stages 0) ≡ (Graded r.verdict r.trials, r.completion) → 1 ≤ r.verdict → r.verdict ≤ 5 → One r
-by_cases r [] e q low high = absurd (let z = (answer_parts q).0 in omega (arith, z))
-by_cases r (b ∷ []) e q low high = record { completion = sym e ∙ ap (λ x. x ∷ []) (answer_parts q).1; verdict = sym (answer_parts q).0 }
-by_cases r (a ∷ b ∷ bs) e q low high = absurd (let z = (answer_parts q).0 in omega (arith, z))
+-- what a grading gave, by the completions
+abbrev pub Gave : Grading → List (List ℕ) → Type 0
+Gave r bs = grade_by bs (λ u. rate_from r.grid r.order r.ceiling ladder 0) ≡ (Ok (rating r.verdict r.trials), r.completion)
+
+pub gave_by : (r : Grading) → Gave r (completions r.grid)
+unfolding grade_of
+gave_by r = r.gave
+
+by_one : (r : Grading) (b : List ℕ) → completions r.grid ≡ b ∷ [] → Gave r (b ∷ []) → One r
+by_one r b e q = record { completion = e ∙ ap (λ p. p.1 ∷ []) q; rating = sym (same_answer (ap (λ p. p.0) q)) }
 
 -- a verdict from 1 to 5, or one completion, tells of it
-by_verdict : (r : Grading) → 1 ≤ r.verdict → r.verdict ≤ 5 → One r
-unfolding grade_of
-by_verdict r = by_cases r (completions r.grid) refl r.gave
+by_verdict : (r : Grading) → 1 ≤ verdict_of r → verdict_of r ≤ 5 → One r
+by_verdict r low high = go (completions r.grid) refl (gave_by r)
+  where
+    go : (bs : List (List ℕ)) → completions r.grid ≡ bs → Gave r bs → One r
+    go [] e q = absurd (let z = ap verdict_in (same_answer (ap (λ p. p.0) q)) in omega (arith, z, low))
+    go (b ∷ []) e q = by_one r b e q
+    go (a ∷ b ∷ bs) e q = absurd (let z = ap verdict_in (same_answer (ap (λ p. p.0) q)) in omega (arith, z, high))
 
 by_completion : (r : Grading) (b : List ℕ) → completions r.grid ≡ b ∷ [] → One r
-unfolding grade_of
-by_completion r b e =
-    let q = subst (λ bs. grade_by bs (λ u. rate_from r.grid r.order r.ceiling stages 0) ≡ (Graded r.verdict r.trials, r.completion)) e r.gave in
-    record { completion = e ∙ ap (λ x. x ∷ []) (answer_parts q).1; verdict = sym (answer_parts q).0 }
+by_completion r b e = by_one r b e (subst (Gave r) e (gave_by r))
 
 -- a list in order that has b alone
 alone : (bs : List (List ℕ)) (b : List ℕ) → Rising bs → ((x : List ℕ) → Memᴰ x bs → x ≡ b) → Memᴰ b bs → bs ≡ b ∷ []
@@ -168,8 +175,8 @@ alone (x ∷ y ∷ bs) b r f m =
     let z = ap (λ q. byte q w.0) e in
     absurd (omega (arith, w.2, z))
 
-climbs : Climbs stages
-climbs = (omega arith, (omega arith, (omega arith, (omega arith, tt))), (omega arith, (omega arith, (omega arith, tt)), (omega arith, (omega arith, tt), (omega arith, tt, tt))))
+climbs : Climbs ladder
+climbs = ((omega arith, (omega arith, (omega arith, tt))), ((omega arith, (omega arith, tt)), ((omega arith, tt), (tt, tt))))
 
 pub of_gradings : OfGradings
 of_gradings first second (low, high) given (b, legal) whole =
@@ -181,5 +188,7 @@ of_gradings first second (low, high) given (b, legal) whole =
     let same : completions second.grid ≡ first.completion ∷ [] =
     alone (completions second.grid) first.completion p.rising (λ x m. only x ((p.members x).0 m)) ((p.members first.completion).1 (subst (Legal second.grid) (only b legal) legal)) in
     let two = by_completion second first.completion same in
-    let least = no_higher first second given b legal stages 0 0 climbs (omega (arith, one.verdict, high)) (λ z. whole (two.verdict ∙ z)) in
-    (ap (λ bs. get_or bs 0 []) (sym two.completion ∙ same), omega (arith, one.verdict, two.verdict, least))
+    let e = ap verdict_in one.rating in
+    let f = ap verdict_in two.rating in
+    let least = no_higher first second given b legal ladder 0 0 climbs (omega (arith, e, high)) (λ z. whole (f ∙ z)) in
+    (ap (λ bs. get_or bs 0 []) (sym two.completion ∙ same), omega (arith, e, f, least))

@@ -12,12 +12,12 @@ use native.Mathlib.Omega.{arith}
 use lib.Dec.{T}
 use lib.IntN.{ℤ, pos}
 use lib.ListN.{take, drop}
+use Rattle.std.specs.Prelude.{Ok}
 use Rattle.grid.specs.Counting.{total, tally, all}
 use Rattle.grid.specs.Grid.{byte, is_digit, digit_of}
 use Rattle.grid.specs.House.{cell_of}
 use Rattle.grid.specs.Completion.{Legal, times, is_legal}
 use Rattle.grid.specs.Examples.{G}
-use Rattle.grid.specs.declared.Checked.TheVariants.{Accepted}
 use Rattle.grid.proofs.Counting.{tally_some, tally_find}
 use Rattle.grid.proofs.Completion.{legal_iff}
 use Rattle.clauses.specs.Clauses.{clauses_of}
@@ -27,18 +27,20 @@ use Rattle.clauses.proofs.Members.{givens_iff, given_literal}
 use Rattle.closure.specs.Job.{End, solved, opened, stopped, contradiction, job_end, count_of, outcome_of}
 use Rattle.closure.proofs.Marks.{decided_some}
 use Rattle.orders.specs.Order.{order_check, default_ceiling}
+use Rattle.orders.specs.declared.technique.Technique.{Technique}
 use Rattle.completions.specs.Completions.{completions}
 use Rattle.completions.proofs.Completions.{completions_in_order}
-use Rattle.grading.specs.Grade.{stages, after_job, rate_from, grade_by, grade_of, grade_call}
-use Rattle.grading.specs.declared.Stage.{Stage}
-use Rattle.grading.specs.declared.GradeAnswer.TheVariants.{Graded}
+use Rattle.grading.specs.Grade.{number_of, ladder, after_job, rate_from}
+use Rattle.grading.specs.declared.Verdict.{Verdict}
+use Rattle.grading.specs.declared.Verdict.TheVariants.{NoCompletion, Finished, Unfinished, Stopped, SeveralCompletions}
 use Rattle.grading.proofs.Grading.{job_at}
-use Rattle.demands.specs.Gradings.{Grading}
-use Rattle.demands.specs.NeverStopped.{trials_most, NeverStopped, NeverSix}
+use Rattle.demands.specs.Gradings.{Grading, verdict_of}
+use Rattle.demands.specs.NeverStopped.{trials_most, NeverStopped, NeverSix, SixIsStopped}
+use Rattle.demands.proofs.Checks.{same_answer}
 use Rattle.demands.proofs.Ends.{end_ok}
 use Rattle.demands.proofs.Jobs.{unit_end}
 use Rattle.demands.proofs.GradeCalls.{call_graded}
-use Rattle.demands.proofs.GradingsCompared.{legal_carries, answer_parts}
+use Rattle.demands.proofs.GradingsCompared.{number_low, verdict_in, legal_carries, Gave, gave_by}
 
 -- document 01's full grid with its upper three rows below the others
 another : List ℕ
@@ -75,16 +77,22 @@ abbrev most : Bool → ℕ
 most true = trials_most
 most false = 0
 
-abbrev most_of : List Stage → ℕ
+abbrev most_of : List Technique → ℕ
 most_of [] = 0
-most_of (s ∷ ss) = most s.technique.trials + most_of ss
+most_of (s ∷ ss) = most s.trials + most_of ss
 
--- no technique's own verdict is above 5
-abbrev Low : List Stage → Type 0
-Low [] = Unit {0}
-Low (s ∷ ss) = (s.verdict ≤ 5) × Low ss
+-- verdict 6 is stopped
+six : (v : Verdict) → number_of v ≡ 6 → v ≡ Stopped
+six NoCompletion e = absurd (omega arith)
+six (Finished t) e = absurd (omega (arith, e, number_low t))
+six Unfinished e = absurd (omega arith)
+six Stopped e = refl
+six SeveralCompletions e = absurd (omega arith)
 
-module _ (g : List ℕ) (o : List ℤ) (accepted : order_check o ≡ Accepted) (l : ℤ) (i : Memᴰ l (givens g)) where
+pub six_is_stopped : SixIsStopped
+six_is_stopped v = (six v, λ e. ap number_of e)
+
+module _ (g : List ℕ) (o : List ℤ) (accepted : order_check o ≡ Ok tt) (l : ℤ) (i : Memᴰ l (givens g)) where
   -- one technique
   within : (s : ClauseSet) (t : Bool) (c : ℕ)
       → let e = job_end (clauses_of s) c t o (givens g) in (count_of e ≤ most t) × (most t ≤ c → outcome_of e ≡ 3 → ⊥)
@@ -94,44 +102,34 @@ module _ (g : List ℕ) (o : List ℤ) (accepted : order_check o ≡ Accepted) (
       (omega (arith, w.count), λ h. w.whole (omega arith))
 
   -- where the ceiling has room for the techniques that are left, none is stopped
-  rated : (c : ℕ) (ss : List Stage) (t : ℕ) → Low ss → t + most_of ss ≤ c → (rate_from g o c ss t).verdict ≤ 5
+  rated : (c : ℕ) (ss : List Technique) (t : ℕ) → t + most_of ss ≤ c → verdict_in (rate_from g o c ss t) ≤ 5
   unfolding rate_from
-  rated c [] t low room = omega arith
-  rated c (s ∷ ss) t low room = go (job_at g o c s t) (within s.technique.set s.technique.trials (c - t)) (λ k. rated c ss k low.1)
+  rated c [] t room = omega arith
+  rated c (s ∷ ss) t room = go (job_at g o c s t) (within s.set s.trials (c - t)) (rated c ss)
     where
-      go : (e : End) → (count_of e ≤ most s.technique.trials) × (most s.technique.trials ≤ c - t → outcome_of e ≡ 3 → ⊥)
-          → ((k : ℕ) → k + most_of ss ≤ c → (rate_from g o c ss k).verdict ≤ 5) → (after_job e s.verdict t (rate_from g o c ss)).verdict ≤ 5
-      go (solved m n) w r = low.0
+      go : (e : End) → (count_of e ≤ most s.trials) × (most s.trials ≤ c - t → outcome_of e ≡ 3 → ⊥)
+          → ((k : ℕ) → k + most_of ss ≤ c → verdict_in (rate_from g o c ss k) ≤ 5) → verdict_in (after_job e s t (rate_from g o c ss)) ≤ 5
+      go (solved m n) w r = omega (arith, number_low s)
       go (stopped m n) w r = absurd (w.1 (omega arith) refl)
       go (opened m n) w r = r (t + n) (omega (arith, w.0))
       go (contradiction n) w r = r (t + n) (omega (arith, w.0))
 
--- the verdicts but 6
-abbrev pub NotSix : ℕ → Type 0
-NotSix v = (v ≤ 5) ⊎ (v ≡ 7)
-
--- no technique is run where there is no completion, or several
-by_completions : (r : Grading) → 2 * trials_most ≤ r.ceiling → (bs : List (List ℕ)) → completions r.grid ≡ bs
-    → grade_by bs (λ u. rate_from r.grid r.order r.ceiling stages 0) ≡ (Graded r.verdict r.trials, r.completion) → NotSix r.verdict
-by_completions r h [] e q = inl (omega (arith, (answer_parts q).0))
-by_completions r h (b ∷ []) e q =
-    let w = some_given r.grid b e in
-    let low : Low stages = (omega arith, (omega arith, (omega arith, (omega arith, tt)))) in
-    inl (omega (arith, (answer_parts q).0, rated r.grid r.order r.order_accepted w.0 w.1 r.ceiling stages 0 low (omega arith)))
-by_completions r h (a ∷ b ∷ bs) e q = inr (sym (answer_parts q).0)
-
-verdicts : (r : Grading) → 2 * trials_most ≤ r.ceiling → NotSix r.verdict
-unfolding grade_of
-verdicts r h = by_completions r h (completions r.grid) refl r.gave
+-- the verdicts but 6; no technique is run where there is no completion, or several
+verdicts : (r : Grading) → 2 * trials_most ≤ r.ceiling → (verdict_of r ≤ 5) ⊎ (verdict_of r ≡ 7)
+verdicts r h = go (completions r.grid) refl (gave_by r)
+  where
+    go : (bs : List (List ℕ)) → completions r.grid ≡ bs → Gave r bs → (verdict_of r ≤ 5) ⊎ (verdict_of r ≡ 7)
+    go [] e q = let z = ap verdict_in (same_answer (ap (λ p. p.0) q)) in inl (omega (arith, z))
+    go (b ∷ []) e q =
+        let w = some_given r.grid b e in
+        let z = ap verdict_in (same_answer (ap (λ p. p.0) q)) in
+        inl (omega (arith, z, rated r.grid r.order r.order_accepted w.0 w.1 r.ceiling ladder 0 (omega arith)))
+    go (a ∷ b ∷ bs) e q = inr (sym (ap verdict_in (same_answer (ap (λ p. p.0) q))))
 
 pub never_stopped : NeverStopped
-never_stopped r h q = ⊎_elim (λ low. omega arith) (λ several. omega arith) (verdicts r (omega arith))
-
--- the verdicts of calls under the default ceiling
-pub call_verdicts : (g : List ℕ) (o : List ℤ) (b : List ℕ) (v t : ℕ) (a : List ℕ) → grade_call g o default_ceiling b ≡ (Graded v t, a) → NotSix v
-call_verdicts g o b v t a e =
-    let w = call_graded g o default_ceiling b v t a e in
-    subst NotSix w.1.verdict (verdicts w.0 (omega (arith, w.1.ceiling)))
+never_stopped r h q = ⊎_elim (λ low. omega arith) (λ several. omega arith) (verdicts r h)
 
 pub never_six : NeverSix
-never_six g o b t a e = ⊎_elim (λ low. omega arith) (λ several. omega arith) (call_verdicts g o b _ t a e)
+never_six g o b t a e =
+    let w = call_graded g o default_ceiling b Stopped t a e in
+    never_stopped w.0 (omega (arith, w.1.ceiling)) (ap number_of w.1.verdict)

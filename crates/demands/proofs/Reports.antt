@@ -4,9 +4,8 @@ use mathlib.Core.Path.{◌≡◌, refl, sym, subst, ◌∙◌}
 use mathlib.Core.Logic.{inl, inr, ⊎_elim}
 use mathlib.Core.List.Memᴰ
 use mathlib.Core.List.{List, [], ◌∷◌}
-use Prim.Native.Nat.{ℕ, suc, min}
+use Prim.Native.Nat.{ℕ}
 use native.Mathlib.Omega.{arith}
-use lib.ListN.{length}
 use Rattle.grid.specs.Completion.{Legal}
 use Rattle.completions.specs.Completions.{completions, Before, InOrder}
 use Rattle.completions.proofs.ByteOrder.{before_once}
@@ -34,7 +33,6 @@ reports_list g (x ∷ []) i =
       second = λ e. absurd (omega arith);
     }
 reports_list g (x ∷ y ∷ bs) i =
-    let two : min 2 (suc (suc (length bs))) ≡ 2 = omega arith in
     let legal : Legal g x = (i.members x).0 (Memᴰ.head refl) in
     let next : Legal g y = (i.members y).0 (Memᴰ.tail (Memᴰ.head refl)) in
     let rise : Before x y = i.rising.0 y (Memᴰ.head refl) in
@@ -42,7 +40,7 @@ reports_list g (x ∷ y ∷ bs) i =
     record {
       none = ((λ e. absurd (omega arith)), λ n. absurd (n x legal));
       one = ((λ e. absurd (omega arith)), λ w. absurd (differ (w.2 x legal ∙ sym (w.2 y next))));
-      several = ((λ e. (x, y, legal, next, differ)), λ w. two);
+      several = ((λ e. (x, y, legal, next, differ)), λ w. refl);
       first = λ n. (legal, λ b l. ⊎_elim inl (λ m. inr (i.rising.0 b m)) (Memᴰ.cases_cons ((i.members b).1 l)));
       second = λ e. (
         next,

@@ -1,9 +1,8 @@
 -- What is claimed of a batch that is not refused: each of its grids has its job, as the lent marks and the answer list have it at the return.
-use Rattle.std.specs.Prelude.{◌≡◌, List, ℕ, ◌+◌, ◌*◌, ◌-◌, ◌≤◌, ◌<◌, ℤ, length, get_or, take, drop}
+use Rattle.std.specs.Prelude.{◌≡◌, List, ℕ, ◌+◌, ◌*◌, ◌-◌, ◌≤◌, ◌<◌, ℤ, length, get_or, take, drop, Ok}
 use Rattle.grid.specs.Counting.{total}
 use Rattle.orders.specs.Technique.{technique_of}
-use Rattle.inference.specs.Call.{outcome_number}
-use Rattle.orders.specs.declared.technique.Numbered.TheVariants.{Known}
+use Rattle.trials.specs.Steps.{outcome_number}
 use Rattle.batch.specs.Call.{grids_in, grid_at}
 use Rattle.demands.specs.Jobs.{Ran}
 
@@ -27,7 +26,7 @@ count_before answers i = total i (count_at answers)
 -- and it ended as the marks m and the answer list a say
 pub record IsPart (r : Ran) (g : List ℕ) (n : ℕ) (o : List ℤ) (c : ℕ) (m a : List ℕ) (i : ℕ) : Type 0 where
   pub grid : r.grid ≡ grid_at g i
-  pub technique : technique_of n ≡ Known r.technique
+  pub technique : technique_of n ≡ Ok r.technique
   pub order : r.order ≡ o
   pub ceiling : r.ceiling ≡ c - count_before a i
   pub outcome : outcome_number r.outcome ≡ outcome_at a i

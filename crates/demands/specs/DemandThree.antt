@@ -4,7 +4,7 @@ use Rattle.grid.specs.Grid.{byte, is_digit}
 use Rattle.grid.specs.Completion.{Legal}
 use Rattle.orders.specs.Technique.{AtLeast}
 use Rattle.demands.specs.Jobs.{Ran, IsStopped, IsContradiction, mark_at}
-use Rattle.demands.specs.Gradings.{Grading}
+use Rattle.demands.specs.Gradings.{Grading, verdict_of}
 
 -- the second grid has every given of the first: the same byte stands at its place
 abbrev pub HasGivens : List ℕ → List ℕ → Type 0
@@ -32,11 +32,11 @@ OfJobs =
 abbrev pub OfGradings : Type 0
 OfGradings =
     (first second : Grading)
-    → (1 ≤ first.verdict) × (first.verdict ≤ 5)
+    → (1 ≤ verdict_of first) × (verdict_of first ≤ 5)
     → HasGivens first.grid second.grid
     → (b : List ℕ) × Legal second.grid b
-    → (second.verdict ≡ 6 → ⊥)
-    → (second.completion ≡ first.completion) × (second.verdict ≤ first.verdict)
+    → (verdict_of second ≡ 6 → ⊥)
+    → (second.completion ≡ first.completion) × (verdict_of second ≤ verdict_of first)
 
 -- the demand
 abbrev pub DemandThree : Type 0

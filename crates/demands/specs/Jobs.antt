@@ -1,9 +1,8 @@
 -- What is claimed of jobs that are not refused: the closure that they give back, what solved and contradiction mean, and their counts.
-use Rattle.std.specs.Prelude.{◌≡◌, ◌↔◌, cond, false, ℕ, suc, ◌≤◌, ◌<◌, T, ℤ, get_or}
+use Rattle.std.specs.Prelude.{◌≡◌, ◌↔◌, cond, false, ℕ, suc, ◌≤◌, ◌<◌, T, ℤ, get_or, Ok}
 use mathlib.Core.List.{List, Memᴰ}
 use Rattle.grid.specs.Completion.{Legal}
 use Rattle.grid.specs.Refusals.{grid_check}
-use Rattle.grid.specs.declared.Checked.TheVariants.{Accepted}
 use Rattle.clauses.specs.Clauses.{clauses_of}
 use Rattle.clauses.specs.Models.{givens, truth_of}
 use Rattle.closure.specs.Sets.{LiteralSet, Within, Least}
@@ -12,12 +11,11 @@ use Rattle.closure.specs.Closure as closure
 use Rattle.closure.specs.Marks.{has}
 use Rattle.orders.specs.Order.{order_check, default_ceiling}
 use Rattle.orders.specs.Technique.{technique_of}
-use Rattle.inference.specs.Call.{job_of}
-use Rattle.inference.specs.declared.job.JobAnswer.TheVariants.{Finished}
-use Rattle.inference.specs.declared.job.Outcome.{Outcome}
-use Rattle.inference.specs.declared.job.Outcome.TheVariants.{Solved, Stopped, Contradiction}
-use Rattle.orders.specs.declared.technique.Numbered.TheVariants.{Known}
 use Rattle.orders.specs.declared.technique.Technique.{Technique}
+use Rattle.trials.specs.Steps.{end}
+use Rattle.trials.specs.declared.trial.Outcome.{Outcome}
+use Rattle.trials.specs.declared.trial.Outcome.TheVariants.{Solved, Stopped, Contradiction}
+use Rattle.inference.specs.Call.{job_of}
 
 -- A job that is not refused: what it was given, and what it gave back. A job call makes one, and each job of a batch is one.
 pub record Ran : Type 0 where
@@ -28,14 +26,14 @@ pub record Ran : Type 0 where
   pub outcome : Outcome
   pub count : ℕ
   pub marks : List ℕ
-  pub grid_accepted : grid_check grid ≡ Accepted
-  pub order_accepted : order_check order ≡ Accepted
-  pub gave : job_of technique grid order ceiling ≡ (Finished outcome count, marks)
+  pub grid_accepted : grid_check grid ≡ Ok tt
+  pub order_accepted : order_check order ≡ Ok tt
+  pub gave : job_of technique grid order ceiling ≡ (Ok (end outcome count), marks)
 
 -- r is the job of that grid, technique number, order and ceiling, and ended with that outcome, count and marks
 pub record IsJob (r : Ran) (g : List ℕ) (n : ℕ) (o : List ℤ) (c : ℕ) (a : Outcome) (k : ℕ) (m : List ℕ) : Type 0 where
   pub grid : r.grid ≡ g
-  pub technique : technique_of n ≡ Known r.technique
+  pub technique : technique_of n ≡ Ok r.technique
   pub order : r.order ≡ o
   pub ceiling : r.ceiling ≡ c
   pub outcome : r.outcome ≡ a

@@ -9,6 +9,7 @@ use native.Mathlib.Decide.{dec_lt}
 use native.Mathlib.Omega.{arith}
 use lib.Dec.{T, ltb, leb, ltb→lt, lt→ltb, leb→le, le→leb}
 use lib.IntN.{ℤ, pos}
+use Rattle.std.specs.Prelude.{Ok}
 use Rattle.grid.specs.Grid.{byte}
 use Rattle.grid.proofs.Completion.{digit_iff, eq_iff}
 use Rattle.clauses.specs.Clauses.{clauses_of}
@@ -17,8 +18,8 @@ use Rattle.clauses.proofs.ModelsAreCompletions.{truth_at}
 use Rattle.closure.specs.Sets.{Least}
 use Rattle.closure.specs.Closure.{Contradiction, With, UnitClosed}
 use Rattle.closure.specs.Marks.{has, IsMarks}
-use Rattle.propagation.specs.Steps.{ClosesTo}
-use Rattle.propagation.specs.declared.close.Reached.TheVariants.{Decided}
+use Rattle.worklist.specs.declared.acting.State.{State}
+use Rattle.propagation.specs.Steps.{ComesTo}
 use Rattle.completions.specs.Completions.{those, Before, InOrder}
 use Rattle.completions.specs.Left.{left}
 use Rattle.completions.proofs.ByteOrder.{in_order_same, in_order_as, in_order_none, in_order_those, in_order_append}
@@ -102,8 +103,9 @@ module _ (m : List ℕ) (i : IsMarks m) (c : ℕ) (h : c < 81) where
             λ w. (w.0, omega (arith, w.1)),
           ))
 
-      pub branch_left : {t a : List ℕ} {k : ℕ} → ClosesTo Extended Digit t a (Decided k) → below m c (d + 1) ≡ below m c d ++ left t
-      branch_left {t} s =
+      pub branch_left : {st : State} → ComesTo Extended Digit (Ok st) → below m c (d + 1) ≡ below m c d ++ left st.marks
+      branch_left {st} s =
+          let t = st.marks in
           in_order_same (Below (d + 1)) (λ b. Below d b ⊎ Fits (Of t) b) (below m c (d + 1)) (below m c d ++ left t) (below_in_order (d + 1))
           (in_order_append (Below d) (Fits (Of t)) (below m c d) (left t) (below_in_order d) (left_in_order t s.state.marks.marks)
           (λ a b v f. let w = back b f in smaller_before a b v.0 w.0 (omega (arith, v.1, w.1))))
@@ -112,5 +114,5 @@ module _ (m : List ℕ) (i : IsMarks m) (c : ℕ) (h : c < 81) where
             λ w. ⊎_elim (λ v. (v.0, omega (arith, v.1))) (λ f. let v = back b f in (v.0, omega (arith, v.1))) w,
           ))
         where
-          back : (b : List ℕ) → Fits (Of t) b → Fits (Of m) b × (byte b c ≡ 49 + d)
+          back : (b : List ℕ) → Fits (Of st.marks) b → Fits (Of m) b × (byte b c ≡ 49 + d)
           back b f = (digit_fits b).0 ((closed_fits Digit s b).1 f)

@@ -1,59 +1,54 @@
 -- What is found in one list and then in another is what is found in the two, one after the other.
 -- Assumes nothing.
-use mathlib.Core.Path.{◌≡◌, refl, ◌∙◌}
-use mathlib.Core.List.{List, [], ◌∷◌, ◌++◌, append-nil, Memᴰ}
-use Prim.Native.Nat.{ℕ, suc, min}
-use native.Mathlib.Omega.{arith}
-use lib.ListN.{length}
-use Rattle.exploration.specs.Search.{found_of}
+use mathlib.Core.Path.{◌≡◌, refl, sym}
+use mathlib.Core.Bool.{true}
+use mathlib.Core.List.{List, [], ◌∷◌, ◌++◌, append-nil}
+use Prim.Native.Nat.{ℕ}
+use lib.Dec.{eqb}
+use Rattle.exploration.specs.Search.{found_of, count_of}
 use Rattle.exploration.specs.declared.Found.{Found}
+use Rattle.exploration.specs.declared.Found.TheVariants.{Nothing, One, Several}
 
-none_first : (a b : List (List ℕ)) → (found_of a).count ≡ 0 → found_of b ≡ found_of (a ++ b)
+-- where nothing is found in the first list
+pub nothing_first : (a b : List (List ℕ)) → found_of a ≡ Nothing → found_of (a ++ b) ≡ found_of b
 unfolding found_of
-none_first [] b e = refl
-none_first (x ∷ a) b e = absurd (omega arith)
+nothing_first [] b e = refl
+nothing_first (x ∷ []) b e = cc
+nothing_first (x ∷ y ∷ a) b e = cc
+
+-- where one is, and nothing in the second
+pub one_nothing : (a b : List (List ℕ)) (x : List ℕ) → found_of a ≡ One x → found_of b ≡ Nothing → found_of (a ++ b) ≡ One x
+unfolding found_of
+one_nothing a [] x e f = rw (append-nil a) e
+one_nothing a (y ∷ []) x e f = cc
+one_nothing a (y ∷ z ∷ b) x e f = cc
+
+-- one in each
+pub one_one : (a b : List (List ℕ)) (x y : List ℕ) → found_of a ≡ One x → found_of b ≡ One y → found_of (a ++ b) ≡ Several x y
+unfolding found_of
+one_one [] b x y e f = cc
+one_one (v ∷ []) [] x y e f = cc
+one_one (v ∷ []) (w ∷ []) x y e f = cc
+one_one (v ∷ []) (w ∷ z ∷ b) x y e f = cc
+one_one (v ∷ w ∷ a) b x y e f = cc
+
+-- one, and several in the second
+pub one_several : (a b : List (List ℕ)) (x y z : List ℕ) → found_of a ≡ One x → found_of b ≡ Several y z → found_of (a ++ b) ≡ Several x y
+unfolding found_of
+one_several [] b x y z e f = cc
+one_several (v ∷ []) [] x y z e f = cc
+one_several (v ∷ []) (w ∷ []) x y z e f = cc
+one_several (v ∷ []) (w ∷ u ∷ b) x y z e f = cc
+one_several (v ∷ w ∷ a) b x y z e f = cc
 
 -- after two no more counts
-pub two_first : (a b : List (List ℕ)) → (found_of a).count ≡ 2 → found_of a ≡ found_of (a ++ b)
+pub several_first : (a b : List (List ℕ)) (x y : List ℕ) → found_of a ≡ Several x y → found_of (a ++ b) ≡ Several x y
 unfolding found_of
-two_first [] b e = absurd (omega arith)
-two_first (x ∷ []) b e = absurd (omega arith)
-two_first (x ∷ y ∷ a) b e =
-    let q : min 2 (suc (suc (length (a ++ b)))) ≡ 2 = omega arith in
-    let r : min 2 (suc (suc (length a))) ≡ 2 = omega arith in
-    rw (q, r)
+several_first [] b x y e = cc
+several_first (v ∷ []) b x y e = cc
+several_first (v ∷ w ∷ a) b x y e = cc
 
-none_then : (a b : List (List ℕ)) → (found_of b).count ≡ 0 → found_of a ≡ found_of (a ++ b)
-unfolding found_of
-none_then a [] e = rw (append-nil a)
-none_then a (y ∷ b) e = absurd (omega arith)
-
--- after one the first of the second list comes second
-one_first : (a b : List (List ℕ)) → ((found_of a).count ≡ 0 → ⊥) → ((found_of a).count ≡ 2 → ⊥) → ((found_of b).count ≡ 0 → ⊥)
-    → record { count = 2; first = (found_of a).first; second = (found_of b).first } ≡ found_of (a ++ b)
-unfolding found_of
-one_first [] b n t s = absurd (n refl)
-one_first (x ∷ []) [] n t s = absurd (s refl)
-one_first (x ∷ []) (y ∷ b) n t s = let q : min 2 (suc (suc (length b))) ≡ 2 = omega arith in rw q
-one_first (x ∷ y ∷ a) b n t s = absurd (t (omega arith))
-
--- what is found is as long as the entries of the list
-pub found_long : (bs : List (List ℕ)) → ((b : List ℕ) → Memᴰ b bs → length b ≡ 81) → (length (found_of bs).first ≡ 81) × (length (found_of bs).second ≡ 81)
-unfolding found_of
-found_long [] f = (refl, refl)
-found_long (x ∷ []) f = (f x (Memᴰ.head refl), refl)
-found_long (x ∷ y ∷ bs) f = (f x (Memᴰ.head refl), f y (Memᴰ.tail (Memᴰ.head refl)))
-
-module _ (x y : Found) (a b : List (List ℕ)) (p : x ≡ found_of a) (q : y ≡ found_of b) where
-  pub followed_none : x.count ≡ 0 → y ≡ found_of (a ++ b)
-  followed_none e = q ∙ none_first a b (rw p at e)
-
-  pub followed_two : x.count ≡ 2 → x ≡ found_of (a ++ b)
-  followed_two e = p ∙ two_first a b (rw p at e)
-
-  pub followed_nothing : y.count ≡ 0 → x ≡ found_of (a ++ b)
-  followed_nothing e = p ∙ none_then a b (rw q at e)
-
-  pub followed_one : (x.count ≡ 0 → ⊥) → (x.count ≡ 2 → ⊥) → (y.count ≡ 0 → ⊥)
-      → record { count = 2; first = x.first; second = y.first } ≡ found_of (a ++ b)
-  followed_one = rw (p, q) (one_first a b)
+pub enough : (a b : List (List ℕ)) (f : Found) → f ≡ found_of a → eqb (count_of f) 2 ≡ true → f ≡ found_of (a ++ b)
+enough a b Nothing p e = cc
+enough a b (One x) p e = cc
+enough a b (Several x y) p e = sym (several_first a b x y (sym p))

@@ -3,11 +3,11 @@
 use mathlib.Core.Path.{◌≡◌, refl, ap, sym, subst, ◌∙◌}
 use mathlib.Core.Bool.{Bool, true, false, cond, not}
 use mathlib.Core.List.{List, [], ◌∷◌, Memᴰ}
-use Prim.Native.Nat.{ℕ, zero, suc, ◌-◌, ◌%◌, ◌≤◌, min}
+use Prim.Native.Nat.{ℕ, zero, suc, ◌-◌, ◌%◌, ◌≤◌}
 use native.Mathlib.Omega.{arith}
 use lib.Dec.{T}
 use lib.IntN.{ℤ, pos, negsuc}
-use lib.ListN.{length, get_or}
+use lib.ListN.{get_or}
 use Rattle.grid.specs.Completion.{Legal}
 use Rattle.clauses.specs.Clauses.{clauses_of}
 use Rattle.clauses.specs.Literal.{Literal}
@@ -19,71 +19,70 @@ use Rattle.trials.specs.Known.{Named, CompletionOk}
 use Rattle.completions.specs.Completions.{completions}
 use Rattle.completions.proofs.Completions.{completions_in_order}
 use Rattle.exploration.specs.Search.{zeros, found_of}
-use Rattle.exploration.specs.declared.Found.{Found}
-use Rattle.grading.specs.Grade.{stages, after_job, rate_from, MarksOf, Given, grade_by, grade_of}
-use Rattle.grading.specs.declared.Stage.{Stage}
+use Rattle.exploration.specs.declared.Found.TheVariants.{Nothing, One, Several}
+use Rattle.grading.specs.Grade.{rating, ladder, after_job, rate_from, MarksOf, Given, grade_by, grade_of}
+use Rattle.orders.specs.declared.technique.Technique.{Technique}
 use Rattle.grading.specs.declared.Rating.{Rating}
-use Rattle.grading.specs.declared.GradeAnswer.TheVariants.{Graded}
+use Rattle.grading.specs.declared.Verdict.{Verdict}
+use Rattle.grading.specs.declared.Verdict.TheVariants.{NoCompletion, Unfinished, SeveralCompletions}
+use Rattle.std.specs.Prelude.{Ok}
 
 module _ (g : List ℕ) (o : List ℤ) (ceiling : ℕ) where
-  -- the job of a stage, t trials having been made before it
-  abbrev pub job_at : Stage → ℕ → End
-  job_at s t = job_end (clauses_of s.technique.set) (ceiling - t) s.technique.trials o (givens g)
+  -- the job of a technique, t trials having been made before it
+  abbrev pub job_at : Technique → ℕ → End
+  job_at s t = job_end (clauses_of s.set) (ceiling - t) s.trials o (givens g)
 
   -- one technique
-  pub rate_next : (ss rest : List Stage) (s : Stage) (t : ℕ) (e : End) → ss ≡ s ∷ rest → e ≡ job_at s t
-      → after_job e s.verdict t (rate_from g o ceiling rest) ≡ rate_from g o ceiling ss t
+  pub rate_next : (ss rest : List Technique) (s : Technique) (t : ℕ) (e : End) → ss ≡ s ∷ rest → e ≡ job_at s t
+      → after_job e s t (rate_from g o ceiling rest) ≡ rate_from g o ceiling ss t
   unfolding rate_from
-  rate_next ss rest s t e q r = ap (λ x. after_job x s.verdict t (rate_from g o ceiling rest)) r ∙ ap (λ x. rate_from g o ceiling x t) (sym q)
+  rate_next ss rest s t e q r = ap (λ x. after_job x s t (rate_from g o ceiling rest)) r ∙ ap (λ x. rate_from g o ceiling x t) (sym q)
 
-  pub rate_none : (ss : List Stage) (t : ℕ) → ss ≡ [] → record { verdict = 5; trials = t } ≡ rate_from g o ceiling ss t
+  pub rate_none : (ss : List Technique) (t : ℕ) → ss ≡ [] → rating Unfinished t ≡ rate_from g o ceiling ss t
   unfolding rate_from
   rate_none ss t q = ap (λ x. rate_from g o ceiling x t) (sym q)
 
   -- its trials are within what is left of the ceiling
-  pub count_left : (s : Stage) (t : ℕ) (e : End) → e ≡ job_at s t → count_of e ≤ ceiling - t
-  count_left s t e q = rw q (count_below (clauses_of s.technique.set) (ceiling - t) s.technique.trials o (givens g))
+  pub count_left : (s : Technique) (t : ℕ) (e : End) → e ≡ job_at s t → count_of e ≤ ceiling - t
+  count_left s t e q = rw q (count_below (clauses_of s.set) (ceiling - t) s.trials o (givens g))
 
--- by the number of completions that are found
-by_none : (bs : List (List ℕ)) (k : Unit {0} → Rating) → min 2 (length bs) ≡ 0 → ◌≡◌ {A = Given} (Graded 0 0, zeros) (grade_by bs k)
-by_none [] k e = refl
-by_none (b ∷ bs) k e = absurd (omega (arith, e))
-
-by_one : (bs : List (List ℕ)) (k : Unit {0} → Rating) → min 2 (length bs) ≡ 1
-    → ◌≡◌ {A = Given} (Graded (k tt).verdict (k tt).trials, get_or bs 0 zeros) (grade_by bs k)
-by_one [] k e = absurd (omega (arith, e))
-by_one (b ∷ []) k e = refl
-by_one (a ∷ b ∷ bs) k e = absurd (omega (arith, e))
-
-by_several : (bs : List (List ℕ)) (k : Unit {0} → Rating) → (min 2 (length bs) ≡ 0 → ⊥) → (min 2 (length bs) ≡ 1 → ⊥)
-    → ◌≡◌ {A = Given} (Graded 7 0, zeros) (grade_by bs k)
-by_several [] k d e = absurd (d refl)
-by_several (b ∷ []) k d e = absurd (e refl)
-by_several (a ∷ b ∷ bs) k d e = refl
-
-module _ (g : List ℕ) (o : List ℤ) (ceiling : ℕ) (found : Found) (e : found ≡ found_of (completions g)) where
-  abbrev rating : Unit {0} → Rating
-  rating u = rate_from g o ceiling stages 0
-
-  counted : found.count ≡ min 2 (length (completions g))
+-- by what the search has found
+module _ (k : Unit {0} → Rating) where
+  by_one : (bs : List (List ℕ)) (x : List ℕ) → found_of bs ≡ One x → ◌≡◌ {A = Given} (Ok (k tt), x) (grade_by bs k)
   unfolding found_of
-  counted = ap (λ f. f.count) e
+  by_one [] x e = cc
+  by_one (a ∷ []) x e = cc
+  by_one (a ∷ b ∷ bs) x e = cc
+
+  by_none : (bs : List (List ℕ)) → found_of bs ≡ Nothing → ◌≡◌ {A = Given} (Ok (rating NoCompletion 0), zeros) (grade_by bs k)
+  unfolding found_of
+  by_none [] e = refl
+  by_none (a ∷ []) e = cc
+  by_none (a ∷ b ∷ bs) e = cc
+
+  by_several : (bs : List (List ℕ)) (x y : List ℕ) → found_of bs ≡ Several x y → ◌≡◌ {A = Given} (Ok (rating SeveralCompletions 0), zeros) (grade_by bs k)
+  unfolding found_of
+  by_several [] x y e = cc
+  by_several (a ∷ []) x y e = cc
+  by_several (a ∷ b ∷ bs) x y e = refl
+
+module _ (g : List ℕ) (o : List ℤ) (ceiling : ℕ) where
+  abbrev rated : Unit {0} → Rating
+  rated u = rate_from g o ceiling ladder 0
 
   -- one completion
-  pub graded_one : (r : Rating) (x : List ℕ) → found.count ≡ 1 → r ≡ rating tt → x ≡ found.first → ◌≡◌ {A = Given} (Graded r.verdict r.trials, x) (grade_of g o ceiling)
-  unfolding grade_of found_of
-  graded_one r x h p q =
-      ap (λ y. (Graded y.verdict y.trials, x)) p ∙ ap (λ y. (Graded (rating tt).verdict (rating tt).trials, y)) (q ∙ ap (λ f. f.first) e)
-      ∙ by_one (completions g) rating (sym counted ∙ h)
+  pub graded_one : (x y : List ℕ) (r : Rating) → One x ≡ found_of (completions g) → y ≡ x → r ≡ rated tt → ◌≡◌ {A = Given} (Ok r, y) (grade_of g o ceiling)
+  unfolding grade_of
+  graded_one x y r e q p = rw (p, q) (by_one rated (completions g) x (sym e))
 
   -- none, or several
-  pub graded_none : (x : List ℕ) → found.count ≡ 0 → x ≡ zeros → ◌≡◌ {A = Given} (Graded 0 0, x) (grade_of g o ceiling)
+  pub graded_none : (y : List ℕ) (v : Verdict) → Nothing ≡ found_of (completions g) → y ≡ zeros → v ≡ NoCompletion → ◌≡◌ {A = Given} (Ok (rating v 0), y) (grade_of g o ceiling)
   unfolding grade_of
-  graded_none x h q = ap (λ y. (Graded 0 0, y)) q ∙ by_none (completions g) rating (sym counted ∙ h)
+  graded_none y v e q p = rw (p, q) (by_none rated (completions g) (sym e))
 
-  pub graded_several : (x : List ℕ) → (found.count ≡ 0 → ⊥) → (found.count ≡ 1 → ⊥) → x ≡ zeros → ◌≡◌ {A = Given} (Graded 7 0, x) (grade_of g o ceiling)
+  pub graded_several : (a b y : List ℕ) (v : Verdict) → Several a b ≡ found_of (completions g) → y ≡ zeros → v ≡ SeveralCompletions → ◌≡◌ {A = Given} (Ok (rating v 0), y) (grade_of g o ceiling)
   unfolding grade_of
-  graded_several x h k q = ap (λ y. (Graded 7 0, y)) q ∙ by_several (completions g) rating (λ z. h (counted ∙ z)) (λ z. k (counted ∙ z))
+  graded_several a b y v e q p = rw (p, q) (by_several rated (completions g) a b (sym e))
 
 -- the literals that the marks of a legal completion name are its own
 pub marks_complete : (g b m : List ℕ) → Legal g b → MarksOf b m → CompletionOk g m
@@ -103,10 +102,11 @@ marks_complete g b m h r = record { long = r.long; completes = λ l v n. (b, h, 
     own (negsuc k) v n = high (truth_of b (suc k)) (subst (λ x. 2 ≤ x) (r.marks k v) (subst (λ p. 2 ≤ get_or m p 0) (index_place (negsuc k) v) n))
 
 -- the only completion that is found is legal
-pub only_legal : (g : List ℕ) (f : Found) → f ≡ found_of (completions g) → f.count ≡ 1 → Legal g f.first
+pub only_legal : (g x : List ℕ) → One x ≡ found_of (completions g) → Legal g x
 unfolding found_of
-only_legal g f e h = subst (λ x. Legal g x.first) (sym e) (go (completions g) (λ b. ((completions_in_order g).members b).0) (sym (ap (λ x. x.count) e) ∙ h))
+only_legal g x e = go (completions g) (λ b. ((completions_in_order g).members b).0) e
   where
-    go : (bs : List (List ℕ)) → ((b : List ℕ) → Memᴰ b bs → Legal g b) → (found_of bs).count ≡ 1 → Legal g (found_of bs).first
-    go [] k q = absurd (omega (arith, q))
-    go (b ∷ bs) k q = k b (Memᴰ.head refl)
+    go : (bs : List (List ℕ)) → ((b : List ℕ) → Memᴰ b bs → Legal g b) → One x ≡ found_of bs → Legal g x
+    go [] k q = absurd cc
+    go (b ∷ []) k q = k x (Memᴰ.head cc)
+    go (a ∷ b ∷ bs) k q = absurd cc

@@ -1,2 +1,1 @@
 pub mod Grading
-pub mod GradeCalls

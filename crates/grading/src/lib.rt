@@ -1,65 +1,64 @@
 // Grading: the search for a grid's completions; where there is one, the techniques one after the other, with one ceiling for the sum of
 // their trials.
 //
-//     grade          the grading call, with its refusals
-//     GradeAnswer    what it answers
+//     grade      the grading call, with its refusals
+//     Verdict    how a grading ends, and with how many trials, a Rating
 #![tactic(auto)]
 
-ghost use Rattle.std.specs.Prelude.{◌≡◌, ◌∷◌, ◌+◌, ◌<◌, length, drop};
-ghost use Rattle.grid.specs.Refusals.{refusal};
+ghost use Rattle.std.specs.Prelude.{◌≡◌, length, Ok};
 ghost use Rattle.trials.specs.Known.{CompletionOk};
-ghost use Rattle.trials.specs.Steps.{Literals};
-ghost use Rattle.grading.specs.Grade.{stages, rate_from, MarksOf, grade_of, grade_call};
-ghost use Rattle.grading.specs.declared.GradeAnswer.TheVariants.{Refused};
+ghost use Rattle.grading.specs.Grade.{number_of, ladder, rate_from, MarksOf, grade_of, grade_call};
 
-use exploration::find;
-use grid::copy::copy_out;
-use grid::{Checked, Refusal, check_grid};
+use exploration::{Found, find};
+use grid::{Refusal, keyed};
 use inference::job::run_with;
-use orders::order::check_order;
+use orders::order::Order;
 use orders::technique::Technique;
-use trials::trial::End;
+use trials::trial::Outcome;
 
-// A technique that a grading tries, with the verdict where it solves.
-#[derive(Drop)]
-pub struct Stage {
-    pub verdict: u32,
-    pub technique: Technique,
+// How a grading ends: the grid has no legal completion, or several; the weakest technique that finishes it; none does; or the ceiling stops
+// one.
+#[derive(Clone, Copy, Debug, PartialEq, Eq)]
+pub enum Verdict {
+    NoCompletion,
+    Finished(Technique),
+    Unfinished,
+    Stopped,
+    SeveralCompletions,
 }
 
-// The techniques that a grading tries, in order.
-fn stage_at(i: usize) -> Stage
-    requires { i < 4 }
-    ensures { drop i stages ≡ result ∷ drop (i + 1) stages }
-{
-    if i == 0 {
-        Stage {
-            verdict: 1,
-            technique: Technique::unit_minimal(),
-        }
-    } else if i == 1 {
-        Stage {
-            verdict: 2,
-            technique: Technique::unit_extended(),
-        }
-    } else if i == 2 {
-        Stage {
-            verdict: 3,
-            technique: Technique::trials_minimal(),
-        }
-    } else {
-        Stage {
-            verdict: 4,
-            technique: Technique::trials_extended(),
+impl Verdict {
+    // The number that hosts and listings are told.
+    pub fn number(self) -> u32
+        ensures { result ≡ number_of self }
+    {
+        match self {
+            Verdict::NoCompletion => 0,
+            Verdict::Finished(technique) => technique.number(),
+            Verdict::Unfinished => 5,
+            Verdict::Stopped => 6,
+            Verdict::SeveralCompletions => 7,
         }
     }
 }
 
 // A verdict with the trial total.
-#[derive(Drop)]
+#[derive(Clone, Copy, Debug, PartialEq, Eq)]
 pub struct Rating {
-    pub verdict: u32,
+    pub verdict: Verdict,
     pub trials: u32,
+}
+
+// The techniques that a grading tries, in order.
+fn ladder() -> [Technique; 4]
+    ensures { result ≡ ladder }
+{
+    [
+        Technique::unit_minimal(),
+        Technique::unit_extended(),
+        Technique::trials_minimal(),
+        Technique::trials_extended(),
+    ]
 }
 
 // The marks of a completion: its digits are true, and all others false.
@@ -67,100 +66,78 @@ fn marks_of(completion: &[u8; 81]) -> [u8; 729]
     ensures { MarksOf completion.now result }
 {
     let mut marks = [2u8; 729];
-    let mut p = 0;
-    while p < 729 {
+    for p in 0..729 {
         if completion[p / 9] == 49 + (p % 9) as u8 {
             marks[p] = 1;
         }
-        p += 1;
     }
     marks
 }
 
 // The rating of a grid with one completion, whose literals are known to succeed: each technique gets what the earlier ones left of the ceiling.
-fn climb(grid: &[u8], order: &[i16], ceiling: u32, possible: &[u8; 729]) -> Rating
-    requires { (length grid.now ≡ 81) × Literals order.now × CompletionOk grid.now possible.now }
-    ensures { result ≡ rate_from grid.now order.now ceiling stages 0 }
+fn climb(grid: &[u8; 81], order: &Order, ceiling: u32, possible: &[u8; 729]) -> Rating
+    requires { CompletionOk grid.now possible.now }
+    ensures { result ≡ rate_from grid.now order.now.entries.now ceiling ladder 0 }
 {
+    let techniques = ladder();
     let mut trials = 0;
-    let mut i = 0;
-    while i < 4 {
-        let stage = stage_at(i);
-        let ended = run_with(stage.technique, grid, order, ceiling - trials, possible);
+    for technique in &techniques {
+        let ended = run_with(*technique, grid, order, ceiling - trials, possible);
         let end = ended.end;
-        match end {
-            End::Solved(n) => {
+        trials += end.count;
+        match end.outcome {
+            Outcome::Solved => {
                 return Rating {
-                    verdict: stage.verdict,
-                    trials: trials + n,
+                    verdict: Verdict::Finished(*technique),
+                    trials,
                 };
             }
-            End::Stopped(n) => {
+            Outcome::Stopped => {
                 return Rating {
-                    verdict: 6,
-                    trials: trials + n,
+                    verdict: Verdict::Stopped,
+                    trials,
                 };
             }
-            End::Open(n) => {
-                trials += n;
-            }
-            End::Contradiction(n) => {
-                trials += n;
-            }
+            Outcome::Open | Outcome::Contradiction => {}
         }
-        i += 1;
     }
-    Rating { verdict: 5, trials }
-}
-
-// The answer of a grading call: verdict and trial total, or a refusal.
-#[derive(Drop)]
-pub enum GradeAnswer {
-    Graded(u32, u32),
-    Refused(Refusal),
+    Rating {
+        verdict: Verdict::Unfinished,
+        trials,
+    }
 }
 
 // A grading that is not refused.
-fn rate(grid: &[u8], order: &[i16], ceiling: u32, completion: &mut [u8]) -> GradeAnswer
-    requires { (length grid.now ≡ 81) × Literals order.now × (length completion.old ≡ 81) }
-    ensures { (result, completion.new) ≡ grade_of grid.now order.now ceiling }
+fn rate(grid: &[u8; 81], order: &Order, ceiling: u32, completion: &mut [u8]) -> Rating
+    requires { length completion.old ≡ 81 }
+    ensures { (Ok result, completion.new) ≡ grade_of grid.now order.now.entries.now ceiling }
 {
-    let found = find(grid);
-    if found.count == 1 {
-        let only = found.first;
-        copy_out(&only, completion);
-        let possible = marks_of(&only);
-        let rating = climb(grid, order, ceiling, &possible);
-        return GradeAnswer::Graded(rating.verdict, rating.trials);
-    }
-    let blank = [0u8; 81];
-    copy_out(&blank, completion);
-    if found.count == 0 {
-        GradeAnswer::Graded(0, 0)
-    } else {
-        GradeAnswer::Graded(7, 0)
-    }
+    let verdict = match find(grid) {
+        Found::One(only) => {
+            completion.copy_from_slice(&only);
+            return climb(grid, order, ceiling, &marks_of(&only));
+        }
+        Found::Nothing => Verdict::NoCompletion,
+        Found::Several(_, _) => Verdict::SeveralCompletions,
+    };
+    completion.fill(0);
+    Rating { verdict, trials: 0 }
 }
 
-// The grading call. Refusals: 42 a buffer not 81; 11 and 12 by the grid; 22 to 24 by the order.
-pub fn grade(grid: &[u8], order: &[i16], ceiling: u32, completion: &mut [u8]) -> GradeAnswer
+// The grading call.
+#[tactic(auto, unfolding(crate::specs::Grade::grade_call))]
+pub fn grade(
+    grid: &[u8],
+    order: &[i16],
+    ceiling: u32,
+    completion: &mut [u8],
+) -> Result<Rating, Refusal>
     ensures { (result, completion.new) ≡ grade_call grid.now order.now ceiling completion.old }
 {
     if completion.len() != 81 {
-        return GradeAnswer::Refused(Refusal {
-            number: 42,
-            place: 0,
-        });
+        return Err(Refusal::BufferLength);
     }
-    let keyed = check_grid(grid);
-    match keyed {
-        Checked::Refused(refusal) => GradeAnswer::Refused(refusal),
-        Checked::Accepted => {
-            let ordered = check_order(order);
-            match ordered {
-                Checked::Refused(refusal) => GradeAnswer::Refused(refusal),
-                Checked::Accepted => rate(grid, order, ceiling, completion),
-            }
-        }
-    }
+    let keyed_grid = keyed(grid)?;
+    let checked = Order::checked(order)?;
+    Ok(rate(keyed_grid, &checked, ceiling, completion))
 }

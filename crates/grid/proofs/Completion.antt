@@ -7,18 +7,22 @@ use mathlib.Core.Bool.{Bool, true, false, cond, ◌&&◌, ◌||◌, not}
 use mathlib.Core.List.{List}
 use Prim.Native.Nat.{ℕ, ◌-◌, ◌≤◌, ◌<◌}
 use native.Mathlib.Omega.{arith}
-use borrow.Author.Tests.{eqb-true, ltb-true, ltb-false}
-use lib.Dec.{T, eqb, leb, ltb, eqb→eq, eqb_refl, leb→le, le→leb}
+use borrow.Author.Tests.{eqb-true}
+use lib.Dec.{T, eqb, leb, eqb→eq, eqb_refl, leb→le, le→leb}
 use lib.ListN.{length, get_or-map}
 use Rattle.grid.specs.Counting.{all}
 use Rattle.grid.specs.Grid.{byte, is_digit, has_meaning, digit_of, digits_of}
 use Rattle.grid.specs.Completion.{times, Legal, is_full, keeps_givens, each_once, is_legal, is_grid}
-use Rattle.grid.specs.Refusals.{first_bad, grid_check}
+use Rattle.std.specs.Prelude.{Option, Some, None, Result, Ok, Err}
+use Rattle.std.proofs.lemmas.Grind.{common_steps}
+use Rattle.std.specs.List.{position_or_len}
+use Rattle.std.specs.Result.{is_ok}
+use Rattle.std.proofs.lemmas.List.Quantifiers.{position-Some}
+use Rattle.std.proofs.lemmas.List.Sums.{fails_before_first}
+use Rattle.grid.specs.Refusals.{first_bad, bytes_check, grid_check}
 use Rattle.grid.specs.declared.Refusal.{Refusal}
-use Rattle.grid.specs.declared.Checked.TheVariants.{Accepted, Refused}
-use Rattle.grid.proofs.Table.{and_iff}
+use Rattle.grid.proofs.Table.{and_iff, true_is, false_is, not_fails, not_passes}
 use Rattle.grid.proofs.Counting.{all_iff}
-use Rattle.grid.proofs.First.{all_pass}
 
 pub digit_iff : (b : ℕ) → T (is_digit b) ↔ ((49 ≤ b) × (b ≤ 57))
 unfolding is_digit
@@ -55,26 +59,41 @@ full_digit b f c h =
     let d = (digit_iff (byte b c)).0 (((full_iff b).0 (subst T (sym f) tt)).1 c h) in
     (omega (arith, full_long b f), d.0, d.1)
 
-pub not_accepted : (r : Refusal) → Refused r ≡ Accepted → ⊥
+pub not_accepted : (r : Refusal) → ◌≡◌ {A = Result (Unit {0}) Refusal} (Err r) (Ok tt) → ⊥
 not_accepted r q = let z : ◌≡◌ {A = ℕ} 0 1 = cc in omega arith
 
--- The keyer's check accepts exactly the grids.
-pub grid_iff : (g : List ℕ) → (grid_check g ≡ Accepted) ↔ T (is_grid g)
-unfolding grid_check first_bad is_grid
-grid_iff g = go (eqb (length g) 81) (ltb (first_bad g) 81) refl refl
+-- every byte of a list is accepted exactly if each has a meaning
+pub bytes_iff : (b : List ℕ) → (bytes_check b ≡ Ok tt) ↔ ((c : ℕ) → c < length b → T (has_meaning (byte b c)))
+unfolding bytes_check
+bytes_iff b = go (first_bad b) refl
   where
-    means : (length g ≤ first_bad g) ↔ ((c : ℕ) → c < length g → T (has_meaning (byte g c)))
-    means = all_pass has_meaning 0 g
+    bad : ℕ → Bool
+    bad x = not (has_meaning x)
 
-    go : (x y : Bool) → eqb (length g) 81 ≡ x → ltb (first_bad g) 81 ≡ y → (grid_check g ≡ Accepted) ↔ T (is_grid g)
-    go false y e f = rw e ((λ q. absurd (not_accepted _ q)), λ t. absurd t)
-    go true true e f = let n = eqb-true (length g) 81 e in let early = ltb-true (first_bad g) 81 f in
-        rw (e, f) ((λ q. absurd (not_accepted _ q)), λ t. absurd (omega (arith, means.1 (λ c h. (all_iff 81 _).0 t c (omega arith)))))
-    go true false e f = let n = eqb-true (length g) 81 e in let late = ltb-false (first_bad g) 81 f in
-        rw (e, f) ((λ q. (all_iff 81 _).1 (λ c h. means.0 (omega arith) c (omega arith))), λ t. refl)
+    go : (o : Option ℕ) → first_bad b ≡ o → (bytes_check b ≡ Ok tt) ↔ ((c : ℕ) → c < length b → T (has_meaning (byte b c)))
+    go None e =
+        let late : length b ≤ position_or_len bad b = grind (arith, common_steps) in
+        rw e ((λ q c h. not_fails (has_meaning (byte b c)) (fails_before_first bad b c 0 (omega arith))), λ f. refl)
+    go (Some i) e = let s = position-Some bad b i 0 e in
+        rw e ((λ q. absurd (not_accepted _ q)), λ f. absurd (not_passes (has_meaning (byte b i)) s.1 (f i s.0)))
+
+-- The keyer's check accepts exactly the grids.
+pub grid_iff : (g : List ℕ) → (grid_check g ≡ Ok tt) ↔ T (is_grid g)
+unfolding grid_check is_grid
+grid_iff g = go (eqb (length g) 81) refl
+  where
+    go : (x : Bool) → eqb (length g) 81 ≡ x → (grid_check g ≡ Ok tt) ↔ T (is_grid g)
+    go false e = rw e ((λ q. absurd (not_accepted _ q)), λ t. absurd t)
+    go true e = let n = eqb-true (length g) 81 e in
+        rw e ((λ q. (all_iff 81 _).1 (λ c h. (bytes_iff g).0 q c (omega arith))), λ t. (bytes_iff g).1 (λ c h. (all_iff 81 _).0 t c (omega arith)))
+
+-- so a check that accepts says that it is a grid
+pub accepts : (g : List ℕ) (r : Result (Unit {0}) Refusal) → r ≡ grid_check g → is_ok r ≡ is_grid g
+accepts g (Ok u) e = sym (true_is (is_grid g) ((grid_iff g).0 (sym e)))
+accepts g (Err r) e = sym (false_is (is_grid g) (λ t. not_accepted r (e ∙ (grid_iff g).1 t)))
 
 -- such a grid has 81 bytes
-pub accepted_long : (g : List ℕ) → grid_check g ≡ Accepted → length g ≡ 81
+pub accepted_long : (g : List ℕ) → grid_check g ≡ Ok tt → length g ≡ 81
 unfolding is_grid
 accepted_long g e = eqb→eq (length g) 81 ((and_iff (eqb (length g) 81) _).0 ((grid_iff g).0 e)).0
 

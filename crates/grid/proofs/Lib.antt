@@ -1,4 +1,3 @@
-pub mod First
 pub mod Table
 pub mod Counting
 pub mod Least

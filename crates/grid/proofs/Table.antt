@@ -2,7 +2,7 @@
 -- Assumes nothing.
 use mathlib.Core.Path.{◌≡◌, ◌∙◌, refl, subst, sym}
 use mathlib.Core.Logic.{◌↔◌}
-use mathlib.Core.Bool.{Bool, true, false, ◌&&◌}
+use mathlib.Core.Bool.{Bool, true, false, ◌&&◌, not}
 use mathlib.Core.List.{List, [], ◌∷◌}
 use Prim.Native.Nat.{ℕ, zero, suc, ◌+◌, ◌<◌}
 use native.Mathlib.Nat.{add-zero, zero-add, add-suc, suc-add, le_of_suc-le-suc, not-suc-le-zero}
@@ -20,6 +20,18 @@ true_is false t = absurd t
 pub false_is : (b : Bool) → (T b → ⊥) → b ≡ false
 false_is true n = absurd (n tt)
 false_is false n = refl
+
+pub not_fails : (b : Bool) → not b ≡ false → T b
+not_fails true e = tt
+not_fails false e = absurd (subst T e tt)
+
+pub not_passes : (b : Bool) → not b ≡ true → T b → ⊥
+not_passes true e t = subst T (sym e) tt
+not_passes false e t = t
+
+pub fails_not : (b : Bool) → T b → not b ≡ false
+fails_not true t = refl
+fails_not false t = absurd t
 
 module _ {A : Type 0} where
   -- the test passes at each entry and its place, counted from i

@@ -1,5 +1,5 @@
--- Counting and testing the numbers below a bound, and finding the first entry of a list that passes a test.
-use Rattle.std.specs.Prelude.{Bool, true, false, cond, ◌&&◌, List, [], ◌∷◌, ℕ, zero, suc, ◌+◌}
+-- Counting, testing and finding among the numbers below a bound.
+use Rattle.std.specs.Prelude.{Bool, true, false, cond, ◌&&◌, ℕ, zero, suc, ◌+◌}
 
 -- 1 for true, 0 for false
 abbrev pub tick : Bool → ℕ
@@ -24,9 +24,3 @@ all (suc n) p = p n && all n p
 unfoldable pub least_from : ℕ → ℕ → (ℕ → Bool) → ℕ
 least_from a zero p = a
 least_from a (suc n) p = cond (p a) a (least_from (suc a) n p)
-
-module _ {A : Type 0} where
-  -- the place of the first entry that passes the test, counted from 0, or the length where none does
-  unfoldable pub first_at : (A → Bool) → List A → ℕ
-  first_at p [] = 0
-  first_at p (x ∷ xs) = cond (p x) 0 (suc (first_at p xs))

@@ -4,17 +4,13 @@ ghost use Rattle.grid.specs.Counting.{all};
 ghost use Rattle.grid.specs.Grid.{is_digit};
 ghost use Rattle.grid.specs.Completion.{times, is_full, keeps_givens, each_once, is_grid, is_completion};
 
-use super::{Checked, check_grid, house_cell};
+use super::{check_grid, house_cell};
 
 // Whether the keyer's check accepts the grid.
 fn is_grid(grid: &[u8]) -> bool
     ensures { result ≡ is_grid grid.now }
 {
-    let checked = check_grid(grid);
-    match checked {
-        Checked::Accepted => true,
-        Checked::Refused(_) => false,
-    }
+    check_grid(grid).is_ok()
 }
 
 // A digit `1` to `9`.
@@ -31,12 +27,10 @@ fn is_full(candidate: &[u8]) -> bool
     if candidate.len() != 81 {
         return false;
     }
-    let mut cell = 0;
-    while cell < 81 {
+    for cell in 0..81 {
         if !is_digit(candidate[cell]) {
             return false;
         }
-        cell += 1;
     }
     true
 }
@@ -53,12 +47,10 @@ fn keeps_givens(grid: &[u8], candidate: &[u8]) -> bool
     requires { (length grid.now ≡ 81) × (length candidate.now ≡ 81) }
     ensures { result ≡ keeps_givens grid.now candidate.now }
 {
-    let mut cell = 0;
-    while cell < 81 {
+    for cell in 0..81 {
         if !keeps_given(grid[cell], candidate[cell]) {
             return false;
         }
-        cell += 1;
     }
     true
 }
@@ -69,12 +61,10 @@ fn count_digits(candidate: &[u8], house: usize) -> [u8; 9]
     ensures { (d : ℕ) → d < 9 → get_or result d 0 ≡ times candidate.now house d }
 {
     let mut counts = [0; 9];
-    let mut k = 0;
-    while k < 9 {
+    for k in 0..9 {
         let cell = house_cell(house, k);
         let d = (candidate[cell] - b'1') as usize;
         counts[d] += 1;
-        k += 1;
     }
     counts
 }
@@ -85,12 +75,10 @@ fn house_once(candidate: &[u8], house: usize) -> bool
     ensures { result ≡ all 9 (λ d. eqb (times candidate.now house d) 1) }
 {
     let counts = count_digits(candidate, house);
-    let mut d = 0;
-    while d < 9 {
+    for d in 0..9 {
         if counts[d] != 1 {
             return false;
         }
-        d += 1;
     }
     true
 }
@@ -100,12 +88,10 @@ fn each_once(candidate: &[u8]) -> bool
     requires { is_full candidate.now ≡ true }
     ensures { result ≡ each_once candidate.now }
 {
-    let mut house = 0;
-    while house < 27 {
+    for house in 0..27 {
         if !house_once(candidate, house) {
             return false;
         }
-        house += 1;
     }
     true
 }

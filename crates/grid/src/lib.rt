@@ -1,79 +1,134 @@
 // The ground of the grader: the 81 bytes of a grid, its cells and houses, refusals, and the keyer's check.
 //
-//     Refusal, Checked     what a call says that turns its input down; what a check says
-//     check_grid           the keyer's check, refusals 11 and 12
-//     first_bad_byte       the place of the first byte of no meaning, in a grid or a batch
-//     legal                the test of a legal completion
-//     copy                 copies of lent bytes
+//     Refusal        why a call turns its input down
+//     check_grid     the keyer's check of a grid
+//     first_bad_byte, check_bytes    the part of it that a batch shares: that each byte has a meaning
+//     legal          the test of a legal completion
 #![tactic(auto)]
 
-ghost use Rattle.std.specs.Prelude.{◌≡◌, ◌<◌};
+ghost use Rattle.std.specs.Prelude.{◌≡◌, ◌<◌, Ok, Err, MatchResult};
 ghost use Rattle.grid.specs.Grid.{has_meaning};
 ghost use Rattle.grid.specs.House.{cell_of};
-ghost use Rattle.grid.specs.Refusals.{first_bad, grid_check};
+ghost use Rattle.grid.specs.Refusals.{number_of, named_place, first_bad, bytes_check, grid_check};
 
-pub mod copy;
 pub mod legal;
 
-// A refusal of document 01: its number, and a place counted from 0 (0 where none is named).
-#[derive(Drop)]
-pub struct Refusal {
-    pub number: u32,
-    pub place: usize,
+use legal::is_digit;
+
+// Why a call turns its input down, with the place, counted from 0, where it names one.
+#[derive(Clone, Copy, Debug, PartialEq, Eq)]
+pub enum Refusal {
+    // The keyer's: a grid that is not 81 bytes, or a byte of no meaning.
+    GridLength,
+    GridByte(usize),
+    // The operator's: a technique that there is not, and an order that is not 1,458 long or has at a place what is no literal or stood before.
+    Technique,
+    OrderLength,
+    OrderEntry(usize),
+    OrderRepeat(usize),
+    // The layout software's: a piece that is cut short, of a kind that may not stand there, or of a wrong length; and a piece that is missing.
+    PieceCut(usize),
+    PieceKind(usize),
+    PieceLength(usize),
+    PieceMissing,
+    // The host's: what it lends has a wrong length, or there is no such clause set or clause.
+    MarksLength,
+    BufferLength,
+    ClauseSet,
+    ClauseNumber,
+    LiteralsLength,
+    OrderBuffer,
+    BatchLength,
+    AnswersLength,
 }
 
-// What a check says.
-#[derive(Drop)]
-pub enum Checked {
-    Accepted,
-    Refused(Refusal),
+impl Refusal {
+    // The number that hosts and listings are told.
+    pub fn number(self) -> u32
+        ensures { result ≡ number_of self }
+    {
+        match self {
+            Refusal::GridLength => 11,
+            Refusal::GridByte(_) => 12,
+            Refusal::Technique => 21,
+            Refusal::OrderLength => 22,
+            Refusal::OrderEntry(_) => 23,
+            Refusal::OrderRepeat(_) => 24,
+            Refusal::PieceCut(_) => 31,
+            Refusal::PieceKind(_) => 32,
+            Refusal::PieceLength(_) => 33,
+            Refusal::PieceMissing => 34,
+            Refusal::MarksLength => 41,
+            Refusal::BufferLength => 42,
+            Refusal::ClauseSet => 43,
+            Refusal::ClauseNumber => 44,
+            Refusal::LiteralsLength => 45,
+            Refusal::OrderBuffer => 46,
+            Refusal::BatchLength => 47,
+            Refusal::AnswersLength => 48,
+        }
+    }
+
+    // The place that it names, or 0, which is what hosts are told where there is none.
+    pub fn place(self) -> usize
+        ensures { result ≡ named_place self }
+    {
+        match self {
+            Refusal::GridByte(place)
+            | Refusal::OrderEntry(place)
+            | Refusal::OrderRepeat(place)
+            | Refusal::PieceCut(place)
+            | Refusal::PieceKind(place)
+            | Refusal::PieceLength(place) => place,
+            _ => 0,
+        }
+    }
 }
 
 // A digit `1` to `9`, or a blank, `0` or `.`.
+#[tactic(auto, unfolding(crate::specs::Grid::has_meaning, crate::specs::Grid::is_blank))]
 fn has_meaning(b: u8) -> bool
     ensures { result ≡ has_meaning b }
 {
-    if b'1' <= b {
-        b <= b'9'
-    } else if b == b'0' {
-        true
-    } else {
-        b == b'.'
+    is_digit(b) || b == b'0' || b == b'.'
+}
+
+// The place of the first byte of no meaning.
+pub fn first_bad_byte(bytes: &[u8]) -> Option<usize>
+    ensures { result ≡ first_bad bytes.now }
+{
+    bytes.iter().position(|b| !has_meaning(*b))
+}
+
+// The keyer's check of a batch, and of a grid's bytes: each has a meaning.
+#[tactic(auto, unfolding(crate::specs::Refusals::bytes_check))]
+pub fn check_bytes(bytes: &[u8]) -> Result<(), Refusal>
+    ensures { result ≡ bytes_check bytes.now }
+{
+    match first_bad_byte(bytes) {
+        Some(at) => Err(Refusal::GridByte(at)),
+        None => Ok(()),
     }
 }
 
-// The place of the first byte of no meaning, or the length.
-pub fn first_bad_byte(bytes: &[u8]) -> usize
-    ensures { result ≡ first_bad bytes.now }
+// The bytes of a grid, where the keyer's check accepts them.
+#[tactic(auto, unfolding(crate::specs::Refusals::grid_check))]
+pub fn keyed(bytes: &[u8]) -> Result<&[u8; 81], Refusal>
+    ensures { MatchResult result (λ grid. (grid.now ≡ bytes.now) × (grid_check bytes.now ≡ Ok tt)) (λ r. grid_check bytes.now ≡ Err r) }
 {
-    let mut i = 0;
-    while i < bytes.len() {
-        if !has_meaning(bytes[i]) {
-            return i;
-        }
-        i += 1;
-    }
-    i
+    let Ok(grid) = <&[u8; 81]>::try_from(bytes) else {
+        return Err(Refusal::GridLength);
+    };
+    check_bytes(grid)?;
+    Ok(grid)
 }
 
 // The keyer's check of a grid.
-pub fn check_grid(grid: &[u8]) -> Checked
+pub fn check_grid(grid: &[u8]) -> Result<(), Refusal>
     ensures { result ≡ grid_check grid.now }
 {
-    if grid.len() != 81 {
-        return Checked::Refused(Refusal {
-            number: 11,
-            place: 0,
-        });
-    }
-    let at = first_bad_byte(grid);
-    if at < 81 {
-        return Checked::Refused(Refusal {
-            number: 12,
-            place: at,
-        });
-    }
-    Checked::Accepted
+    keyed(grid)?;
+    Ok(())
 }
 
 // The cells of the 27 houses: nine rows, nine columns, nine boxes.

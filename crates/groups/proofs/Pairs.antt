@@ -86,12 +86,12 @@ same_third i k = elim (dec_lt i k) [
 
 module _ (p : ℕ) (h : p < 729) where
   -- the rows of the table
-  pub row_below : (f : Kind) (k : ℕ) → k < 9 → row_at f p + k < 162
+  pub row_most : (f : Kind) → row_at f p ≤ 153
   unfolding row_at
-  row_below Cell k b = omega (arith, (index_at_lem p h Cell).0)
-  row_below Column k b = omega (arith, (index_at_lem p h Column).0)
-  row_below Row k b = omega (arith, (index_at_lem p h Row).0)
-  row_below Box k b = omega (arith, (index_at_lem p h Box).0)
+  row_most Cell = omega (arith, (index_at_lem p h Cell).0)
+  row_most Column = omega (arith, (index_at_lem p h Column).0)
+  row_most Row = omega (arith, (index_at_lem p h Row).0)
+  row_most Box = omega (arith, (index_at_lem p h Box).0)
 
   -- the numbers fit
   abbrev box_at : ℕ
@@ -109,7 +109,7 @@ module _ (p : ℕ) (h : p < 729) where
       go false = omega arith
 
   pub number_small : (f : Kind) (t k : ℕ) → k < 9 → first_number f p t + get_or pair_table (row_at f p + k) 0 < 65536
-  number_small f t k b = omega (arith, first_small f t, entry_small (row_at f p + k) (row_below f k b))
+  number_small f t k b = omega (arith, first_small f t, entry_small (row_at f p + k) (omega (arith, row_most f)))
 
   box_third : index_at Box p / 3 ≡ p / 81 % 3
   unfolding index_at

@@ -222,6 +222,9 @@ module _ (p : ℕ) (h : p < 729) where
       (subst (λ y. (place_of (group_in (slot_at f p)) k < 729) × (slot_at y (place_of (group_in (slot_at f p)) k) ≡ slot_at f p) × (index_at y (place_of (group_in (slot_at f p)) k) ≡ k)) (kind_of_slot f)
       (slot_place (slot_at f p) (slot_below f) k b))
 
+  pub place_small : (f : Kind) (k : ℕ) → k < 9 → place_of (group_at f p) k < 729
+  place_small f k b = (place_at_lem f k b).0
+
   pub place_once : (f : Kind) (i j : ℕ) → i < 9 → j < 9 → place_of (group_at f p) i ≡ place_of (group_at f p) j → i ≡ j
   place_once f i j a b e = sym (place_at_lem f i a).2 ∙ ap (index_at f) e ∙ (place_at_lem f j b).2
 

@@ -1,5 +1,5 @@
 // The calls as C functions, for hosts to link. A slice passes as a pointer and a length, an array as a pointer. Each is one call of what
-// stands below, with the same promise, so that the toolchain proves it with no proof of ours.
+// stands below, whose answer is packed into one number where it may refuse, so that the toolchain proves it with no proof of ours.
 //
 //     grader_check_grid       the keyer's check of a grid
 //     grader_is_completion    the test of a legal completion
@@ -24,13 +24,15 @@ ghost use Rattle.batch.specs.Call.{batch_call};
 ghost use Rattle.jobfile.specs.Call.{read_call};
 ghost use Rattle.listing.specs.Listing.{header_line, listed};
 ghost use Rattle.packing.specs.Packed.{packed_check, packed_given, packed_run, packed_found, packed_graded, packed_ran, packed_file};
-ghost use Rattle.packed.specs.Written.{written};
+ghost use Rattle.host.specs.Written.{written};
+
+use packing::pack;
 
 #[unsafe(no_mangle)]
 pub extern "C" fn grader_check_grid(grid: &[u8]) -> u64
     ensures { result ≡ packed_check (grid_check grid.now) }
 {
-    packed::check_grid(grid)
+    pack(grid::check_grid(grid))
 }
 
 #[unsafe(no_mangle)]
@@ -44,7 +46,7 @@ pub extern "C" fn grader_is_completion(grid: &[u8], candidate: &[u8]) -> bool
 pub extern "C" fn grader_clause(set: u32, number: u32, literals: &mut [i16]) -> u64
     ensures { (result, literals.new) ≡ packed_given (clause_call set number literals.old) }
 {
-    packed::clause(set, number, literals)
+    pack(clauses::clause(set, number, literals))
 }
 
 #[unsafe(no_mangle)]
@@ -57,7 +59,7 @@ pub extern "C" fn grader_job(
 ) -> u64
     ensures { (result, marks.new) ≡ packed_run (job_call grid.now technique order.now ceiling marks.old) }
 {
-    packed::job(grid, technique, order, ceiling, marks)
+    pack(inference::job::job(grid, technique, order, ceiling, marks))
 }
 
 #[unsafe(no_mangle)]
@@ -65,7 +67,7 @@ pub extern "C" fn grader_search(grid: &[u8], first: &mut [u8], second: &mut [u8]
     ensures { (result, first.new, second.new)
         ≡ packed_found (search_call grid.now first.old second.old) }
 {
-    packed::search(grid, first, second)
+    pack(search::search(grid, first, second))
 }
 
 #[unsafe(no_mangle)]
@@ -77,7 +79,7 @@ pub extern "C" fn grader_grade(
 ) -> u64
     ensures { (result, completion.new) ≡ packed_graded (grade_call grid.now order.now ceiling completion.old) }
 {
-    packed::grade(grid, order, ceiling, completion)
+    pack(grading::grade(grid, order, ceiling, completion))
 }
 
 #[unsafe(no_mangle)]
@@ -92,7 +94,7 @@ pub extern "C" fn grader_batch(
     ensures { (result, marks.new, answers.new)
         ≡ packed_ran (batch_call grids.now technique order.now ceiling marks.old answers.old) }
 {
-    packed::batch(grids, technique, order, ceiling, marks, answers)
+    pack(batch::batch(grids, technique, order, ceiling, marks, answers))
 }
 
 #[unsafe(no_mangle)]
@@ -100,19 +102,19 @@ pub extern "C" fn grader_read_job_file(file: &[u8], grid: &mut [u8], order: &mut
     ensures { (result, grid.new, order.new)
         ≡ packed_file (read_call file.now grid.old order.old) }
 {
-    packed::read_job_file(file, grid, order)
+    pack(jobfile::read(file, grid, order))
 }
 
 #[unsafe(no_mangle)]
 pub extern "C" fn grader_header(out: &mut [u8; 20])
     ensures { out.new ≡ header_line }
 {
-    packed::header(out)
+    *out = listing::HEADER;
 }
 
 #[unsafe(no_mangle)]
 pub extern "C" fn grader_list_line(number: u64, line: &[u8], out: &mut [u8; 64]) -> usize
     ensures { (result, out.new) ≡ written (listed number line.now) out.old }
 {
-    packed::list_line(number, line, out)
+    listing::list_line(number, line, out)
 }

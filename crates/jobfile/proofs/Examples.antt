@@ -4,12 +4,12 @@ use mathlib.Core.Path.{◌≡◌, refl}
 use mathlib.Core.List.{List, [], ◌∷◌, ◌++◌}
 use Prim.Native.Nat.{ℕ}
 use lib.IntN.{pos, negsuc}
+use Rattle.std.specs.Prelude.{None, Ok, Err}
 use Rattle.grid.specs.Examples.{G}
-use Rattle.grid.specs.Refusals.{refusal}
+use Rattle.grid.specs.declared.Refusal.TheVariants.{PieceCut, PieceKind, PieceLength, PieceMissing}
 use Rattle.pieces.specs.Number.{signed_of}
-use Rattle.pieces.specs.Pieces.{body_length, piece_at, walk_from, pieces_of}
+use Rattle.pieces.specs.Pieces.{piece_at, walk_from, pieces_of}
 use Rattle.pieces.specs.declared.piece.Bodies.{Bodies}
-use Rattle.pieces.specs.declared.piece.Pieces.TheVariants.{Whole, Refused}
 use Rattle.jobfile.specs.Contents.{grid_in, technique_in}
 
 -- a file of G and technique 3, and its bodies
@@ -17,26 +17,26 @@ abbrev whole : List ℕ
 whole = (81 ∷ 0 ∷ 1 ∷ 0 ∷ G) ++ (1 ∷ 0 ∷ 2 ∷ 0 ∷ 3 ∷ [])
 
 abbrev found : Bodies
-found = record { grid = 4; technique = 89; ceiling = 0; order = 0 }
+found = record { grid = 4; technique = 89; ceiling = None; order = None }
 
-is_whole : (pieces_of whole ≡ Whole found) × (grid_in whole found ≡ G) × (technique_in whole found ≡ 3)
-unfolding G body_length piece_at walk_from pieces_of
+is_whole : (pieces_of whole ≡ Ok found) × (grid_in whole found.grid ≡ G) × (technique_in whole found.technique ≡ 3)
+unfolding G piece_at walk_from pieces_of
 is_whole = (refl, refl, refl)
 
 -- nothing, and a technique alone: no grid; a lone byte: cut short
-at_the_end : (pieces_of [] ≡ Refused (refusal 34 0)) × (pieces_of (1 ∷ 0 ∷ 2 ∷ 0 ∷ 1 ∷ []) ≡ Refused (refusal 34 0)) × (pieces_of (1 ∷ []) ≡ Refused (refusal 31 0))
-unfolding body_length piece_at walk_from pieces_of
+at_the_end : (pieces_of [] ≡ Err PieceMissing) × (pieces_of (1 ∷ 0 ∷ 2 ∷ 0 ∷ 1 ∷ []) ≡ Err PieceMissing) × (pieces_of (1 ∷ []) ≡ Err (PieceCut 0))
+unfolding piece_at walk_from pieces_of
 at_the_end = (refl, refl, refl)
 
 -- within a piece 31 comes before 32, and 32 before 33
-within_a_piece : (pieces_of (2 ∷ 0 ∷ 9 ∷ 0 ∷ 1 ∷ []) ≡ Refused (refusal 31 0)) × (pieces_of (1 ∷ 0 ∷ 9 ∷ 0 ∷ 1 ∷ []) ≡ Refused (refusal 32 0))
-    × (pieces_of (1 ∷ 0 ∷ 1 ∷ 0 ∷ 1 ∷ []) ≡ Refused (refusal 33 0))
-unfolding body_length piece_at walk_from pieces_of
+within_a_piece : (pieces_of (2 ∷ 0 ∷ 9 ∷ 0 ∷ 1 ∷ []) ≡ Err (PieceCut 0)) × (pieces_of (1 ∷ 0 ∷ 9 ∷ 0 ∷ 1 ∷ []) ≡ Err (PieceKind 0))
+    × (pieces_of (1 ∷ 0 ∷ 1 ∷ 0 ∷ 1 ∷ []) ≡ Err (PieceLength 0))
+unfolding piece_at walk_from pieces_of
 within_a_piece = (refl, refl, refl)
 
 -- a kind that repeats, at its piece's place; and an earlier piece's 33 before a later one's 31
-between_pieces : (pieces_of (1 ∷ 0 ∷ 2 ∷ 0 ∷ 1 ∷ 1 ∷ 0 ∷ 2 ∷ 0 ∷ 1 ∷ []) ≡ Refused (refusal 32 5)) × (pieces_of (2 ∷ 0 ∷ 2 ∷ 0 ∷ 1 ∷ 1 ∷ 0 ∷ []) ≡ Refused (refusal 33 0))
-unfolding body_length piece_at walk_from pieces_of
+between_pieces : (pieces_of (1 ∷ 0 ∷ 2 ∷ 0 ∷ 1 ∷ 1 ∷ 0 ∷ 2 ∷ 0 ∷ 1 ∷ []) ≡ Err (PieceKind 5)) × (pieces_of (2 ∷ 0 ∷ 2 ∷ 0 ∷ 1 ∷ 1 ∷ 0 ∷ []) ≡ Err (PieceLength 0))
+unfolding piece_at walk_from pieces_of
 between_pieces = (refl, refl)
 
 -- two's complement

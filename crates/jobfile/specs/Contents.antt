@@ -1,22 +1,22 @@
 -- What the bodies say: grid, technique, ceiling and order.
-use Rattle.std.specs.Prelude.{cond, List, map, ℕ, ◌+◌, ◌*◌, eqb, ℤ, take, drop}
+use Rattle.std.specs.Prelude.{List, map, ℕ, ◌+◌, ◌*◌, ℤ, take, drop, Option, None, Some}
 use Rattle.grid.specs.Grid.{byte}
 use Rattle.clauses.specs.Clauses.{range}
 use Rattle.orders.specs.Order.{default_order, default_ceiling}
 use Rattle.pieces.specs.Number.{signed_of, word_at, double_at}
-use Rattle.pieces.specs.declared.piece.Bodies.{Bodies}
 
 -- the grid: 81 bytes, as they are in the file
-abbrev pub grid_in : List ℕ → Bodies → List ℕ
-grid_in f b = take 81 (drop b.grid f)
+abbrev pub grid_in : List ℕ → ℕ → List ℕ
+grid_in f at = take 81 (drop at f)
 
 -- the number of the technique
-abbrev pub technique_in : List ℕ → Bodies → ℕ
-technique_in f b = byte f b.technique
+abbrev pub technique_in : List ℕ → ℕ → ℕ
+technique_in f at = byte f at
 
 -- the ceiling, 1,062,882 where none is named
-unfoldable pub ceiling_in : List ℕ → Bodies → ℕ
-ceiling_in f b = cond (eqb b.ceiling 0) default_ceiling (double_at f b.ceiling)
+abbrev pub ceiling_in : List ℕ → Option ℕ → ℕ
+ceiling_in f None = default_ceiling
+ceiling_in f (Some at) = double_at f at
 
 -- the entry of an order at a place: two bytes, two's complement
 abbrev pub entry_at : List ℕ → ℕ → ℤ
@@ -27,5 +27,6 @@ unfoldable pub entries_at : List ℕ → ℕ → List ℤ
 entries_at f at = map (λ k. entry_at f (at + 2 * k)) (range 0 1458)
 
 -- the order, +1, −1, +2, −2 to −729 where none is named
-unfoldable pub order_in : List ℕ → Bodies → List ℤ
-order_in f b = cond (eqb b.order 0) default_order (entries_at f b.order)
+unfoldable pub order_in : List ℕ → Option ℕ → List ℤ
+order_in f None = default_order
+order_in f (Some at) = entries_at f at

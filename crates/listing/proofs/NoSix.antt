@@ -1,50 +1,56 @@
 -- No line of a listing has verdict 6. The byte after the line's number and a blank is `R` or the digit of the verdict, and under the default
 -- ceiling no grading has verdict 6.
 -- Assumes nothing.
-use mathlib.Core.Path.{◌≡◌, refl, ap, sym, subst, ◌∙◌}
-use mathlib.Core.Logic.{⊎_elim}
+use mathlib.Core.Path.{◌≡◌, refl, ap, sym, ◌∙◌}
 use mathlib.Core.List.{List, ◌∷◌, ◌++◌, append_assoc, append_cancel_left}
-use Prim.Native.Nat.{ℕ, ◌+◌, ◌<◌}
+use Prim.Native.Nat.{ℕ, ◌+◌, ◌≤◌}
 use native.Mathlib.Omega.{arith}
 use lib.ListN.{get_or}
+use Rattle.std.specs.Prelude.{Ok, Err}
+use Rattle.grid.specs.Refusals as refusals
 use Rattle.grid.specs.declared.Refusal.{Refusal}
 use Rattle.orders.specs.Order.{default_order, default_ceiling}
 use Rattle.exploration.specs.Search.{zeros}
-use Rattle.grading.specs.Grade.{Given, grade_call}
-use Rattle.grading.specs.declared.GradeAnswer.TheVariants.{Graded, Refused}
-use Rattle.demands.proofs.NeverStopped.{NotSix, call_verdicts}
+use Rattle.grading.specs.Grade.{number_of, rating, Given, grade_call}
+use Rattle.grading.specs.declared.Rating.{Rating}
+use Rattle.grading.specs.declared.Verdict.{Verdict}
+use Rattle.grading.specs.declared.Verdict.TheVariants.{NoCompletion, Finished, Unfinished, Stopped, SeveralCompletions}
+use Rattle.demands.proofs.GradingsCompared.{number_low}
+use Rattle.demands.proofs.NeverStopped.{six_is_stopped, never_six}
 use Rattle.listing.specs.Listing.{field, shown, listed, NoSix}
 use Rattle.listing.proofs.Decimal.{decimal_digit}
 
+-- a verdict has one digit
+one_digit : (v : Verdict) → number_of v ≤ 7
+one_digit NoCompletion = omega arith
+one_digit (Finished t) = omega (arith, number_low t)
+one_digit Unfinished = omega arith
+one_digit Stopped = omega arith
+one_digit SeveralCompletions = omega arith
+
 -- a line from its verdict on
-shown_graded : (n v t : ℕ) → v < 10 → shown n (Graded v t) ≡ field n 32 ++ ((48 + v) ∷ 32 ∷ field t 10)
+shown_rating : (n : ℕ) (r : Rating) → shown n (Ok r) ≡ field n 32 ++ ((48 + number_of r.verdict) ∷ 32 ∷ field r.trials 10)
 unfolding shown field
-shown_graded n v t h = rw (decimal_digit v h) (simp append_assoc)
+shown_rating n r = rw (decimal_digit (number_of r.verdict) (omega (arith, one_digit r.verdict))) (simp append_assoc)
 
 -- and from its letter on
-shown_refused : (n : ℕ) (r : Refusal) → shown n (Refused r) ≡ field n 32 ++ (82 ∷ 32 ∷ field r.number 10)
+shown_refusal : (n : ℕ) (r : Refusal) → shown n (Err r) ≡ field n 32 ++ (82 ∷ 32 ∷ field (refusals.number_of r) 10)
 unfolding shown
-shown_refused n r = simp append_assoc
+shown_refusal n r = simp append_assoc
 
 -- of two lines with the same number the bytes after it are the same
 same_byte : (before bs cs : List ℕ) (b c : ℕ) → before ++ (b ∷ bs) ≡ before ++ (c ∷ cs) → b ≡ c
 same_byte before bs cs b c e = ap (λ l. get_or l 0 0) (append_cancel_left before (b ∷ bs) (c ∷ cs) e)
 
--- a line that shows a verdict shows one that a grading has
-line_verdict : (n : ℕ) (line : List ℕ) (v trials : ℕ) → v < 10 → listed n line ≡ shown n (Graded v trials) → NotSix v
-unfolding listed
-line_verdict n line v trials d = go (grade_call line default_order default_ceiling zeros) refl
-  where
-    byte_is : (s bs : List ℕ) (b : ℕ) → s ≡ field n 32 ++ (b ∷ bs) → s ≡ shown n (Graded v trials) → b ≡ 48 + v
-    byte_is s bs b p e = same_byte (field n 32) bs (32 ∷ field trials 10) b (48 + v) (sym p ∙ e ∙ shown_graded n v trials d)
-
-    go : (x : Given) → grade_call line default_order default_ceiling zeros ≡ x → shown n x.0 ≡ shown n (Graded v trials) → NotSix v
-    go (Refused r, a) q e = absurd (omega (arith, byte_is _ _ _ (shown_refused n r) e))
-    go (Graded w t, a) q e =
-        let k = call_verdicts line default_order zeros w t a q in
-        let h : w < 10 = ⊎_elim (λ low. omega arith) (λ several. omega arith) k in
-        let same : w ≡ v = omega (arith, byte_is _ _ _ (shown_graded n w t h) e) in
-        subst NotSix same k
-
 pub no_six : NoSix
-no_six n line trials e = ⊎_elim (λ low. omega arith) (λ several. omega arith) (line_verdict n line _ trials (omega arith) e)
+unfolding listed
+no_six n line trials = go (grade_call line default_order default_ceiling zeros) refl
+  where
+    byte_is : (s bs : List ℕ) (b : ℕ) → s ≡ field n 32 ++ (b ∷ bs) → s ≡ shown n (Ok (rating Stopped trials)) → b ≡ 54
+    byte_is s bs b p e = same_byte (field n 32) bs (32 ∷ field trials 10) b 54 (sym p ∙ e ∙ shown_rating n (rating Stopped trials))
+
+    go : (x : Given) → grade_call line default_order default_ceiling zeros ≡ x → shown n x.0 ≡ shown n (Ok (rating Stopped trials)) → ⊥
+    go (Err r, a) q e = absurd (omega (arith, byte_is _ _ _ (shown_refusal n r) e))
+    go (Ok r, a) q e =
+        let six : r.verdict ≡ Stopped = (six_is_stopped r.verdict).0 (omega (arith, byte_is _ _ _ (shown_rating n r) e)) in
+        never_six line default_order zeros r.trials a (q ∙ ap (λ v. (Ok (rating v r.trials), a)) six)

@@ -1,10 +1,13 @@
 -- The lines of a listing, byte for byte.
-use Rattle.std.specs.Prelude.{◌≡◌, cond, List, [], ◌∷◌, ◌++◌, ℕ, zero, suc, ◌+◌, ◌/◌, ◌%◌, ltb, set}
+use Rattle.std.specs.Prelude.{◌≡◌, cond, List, [], ◌∷◌, ◌++◌, ℕ, zero, suc, ◌+◌, ◌/◌, ◌%◌, ltb, set, Result, Ok, Err}
+use Rattle.grid.specs.Refusals as refusals
+use Rattle.grid.specs.declared.Refusal.{Refusal}
 use Rattle.orders.specs.Order.{default_order, default_ceiling}
 use Rattle.exploration.specs.Search.{zeros}
-use Rattle.grading.specs.Grade.{grade_call}
-use Rattle.grading.specs.declared.GradeAnswer.{GradeAnswer}
-use Rattle.grading.specs.declared.GradeAnswer.TheVariants.{Graded, Refused}
+use Rattle.grading.specs.Grade as grade
+use Rattle.grading.specs.Grade.{rating, grade_call}
+use Rattle.grading.specs.declared.Rating.{Rating}
+use Rattle.grading.specs.declared.Verdict.TheVariants as verdict
 
 -- the header of a listing: `line verdict trials` and a newline
 abbrev pub header_line : List ℕ
@@ -24,17 +27,17 @@ unfoldable pub field : ℕ → ℕ → List ℕ
 field n b = decimal n ++ (b ∷ [])
 
 -- the output line of line number n by its answer: number, verdict, trials, one blank between; or number, `R`, refusal; then a newline
-unfoldable pub shown : ℕ → GradeAnswer → List ℕ
-shown n (Graded v t) = (field n 32 ++ field v 32) ++ field t 10
-shown n (Refused r) = ((field n 32 ++ (82 ∷ [])) ++ (32 ∷ [])) ++ field r.number 10
+unfoldable pub shown : ℕ → Result Rating Refusal → List ℕ
+shown n (Ok r) = (field n 32 ++ field (grade.number_of r.verdict) 32) ++ field r.trials 10
+shown n (Err r) = ((field n 32 ++ (82 ∷ [])) ++ (32 ∷ [])) ++ field (refusals.number_of r) 10
 
 -- the output line of line number n: the line is graded under the default order and the default ceiling
 unfoldable pub listed : ℕ → List ℕ → List ℕ
 listed n line = shown n (grade_call line default_order default_ceiling zeros).0
 
--- no line of a listing is one of verdict 6
+-- no line of a listing is one of verdict 6, stopped
 abbrev pub NoSix : Type 0
-NoSix = (n : ℕ) (line : List ℕ) (trials : ℕ) → listed n line ≡ shown n (Graded 6 trials) → ⊥
+NoSix = (n : ℕ) (line : List ℕ) (trials : ℕ) → listed n line ≡ shown n (Ok (rating verdict.Stopped trials)) → ⊥
 
 -- bytes written from place `at` on
 unfoldable pub put : ℕ → List ℕ → List ℕ → List ℕ

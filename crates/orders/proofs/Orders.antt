@@ -13,20 +13,24 @@ use lib.Dec.{T, eqb, ltb}
 use lib.IntN.{ℤ, pos, negsuc}
 use lib.ListN.{length, get_or}
 use Rattle.grid.specs.Counting.{all}
-use Rattle.grid.specs.declared.Checked.TheVariants.{Accepted}
-use Rattle.grid.proofs.Table.{false_is}
-use Rattle.grid.proofs.First.{all_pass}
+use Rattle.std.specs.Prelude.{Ok}
+use Rattle.std.proofs.lemmas.List.Sums.{position_or_len_is, fails_before_first}
+use Rattle.grid.proofs.Table.{false_is, not_fails, fails_not}
 use Rattle.grid.proofs.Least.{Least, least, least_is}
 use Rattle.grid.proofs.Completion.{eq_iff, not_accepted}
 use Rattle.clauses.specs.Clauses.{range, over}
 use Rattle.clauses.specs.Literal.{Literal, is_literal}
 use Rattle.clauses.proofs.Signed.{literal_iff}
-use Rattle.orders.specs.Order.{default_order, first_no_literal, same, repeats, first_repeat, order_check}
+use Rattle.orders.specs.Order.{default_order, first_no_literal, same, repeats, first_repeat, order_check, Literals}
 use Rattle.orders.specs.Place.{table_place}
 
 -- the entry at place i, 0 past the end
 abbrev pub entry : List ℤ → ℕ → ℤ
 entry o i = get_or o i (pos 0)
+
+-- a number that is no literal
+abbrev pub no_literal : ℤ → Bool
+no_literal l = not (is_literal l)
 
 -- the test of two numbers decides their equality
 pub same_iff : (l m : ℤ) → T (same l m) ↔ (l ≡ m)
@@ -73,12 +77,12 @@ unfolding repeats
 repeats_iff o i = among_iff o (entry o i) i
 
 -- the three tests
-accepted_iff : (o : List ℤ) → (order_check o ≡ Accepted) ↔ ((length o ≡ 1458) × (1458 ≤ first_no_literal o) × (1458 ≤ first_repeat o))
+accepted_iff : (o : List ℤ) → (order_check o ≡ Ok tt) ↔ ((length o ≡ 1458) × (1458 ≤ first_no_literal o) × (1458 ≤ first_repeat o))
 unfolding order_check
 accepted_iff o = go (eqb (length o) 1458) (ltb (first_no_literal o) 1458) (ltb (first_repeat o) 1458) refl refl refl
   where
     go : (x y z : Bool) → eqb (length o) 1458 ≡ x → ltb (first_no_literal o) 1458 ≡ y → ltb (first_repeat o) 1458 ≡ z
-        → (order_check o ≡ Accepted) ↔ ((length o ≡ 1458) × (1458 ≤ first_no_literal o) × (1458 ≤ first_repeat o))
+        → (order_check o ≡ Ok tt) ↔ ((length o ≡ 1458) × (1458 ≤ first_no_literal o) × (1458 ≤ first_repeat o))
     go false y z e f g = rw e ((λ q. absurd (not_accepted _ q)), λ h. absurd (eqb-false (length o) 1458 e h.0))
     go true true z e f g = rw (e, f) ((λ q. absurd (not_accepted _ q)), λ h. absurd (omega (arith, h.1, ltb-true (first_no_literal o) 1458 f)))
     go true false true e f g = rw (e, f, g) ((λ q. absurd (not_accepted _ q)), λ h. absurd (omega (arith, h.2, ltb-true (first_repeat o) 1458 g)))
@@ -90,21 +94,27 @@ abbrev pub EachOnce : List ℤ → Type 0
 EachOnce o =
     (length o ≡ 1458) × ((k : ℕ) → k < 1458 → Literal (entry o k)) × ((i j : ℕ) → i < j → j < 1458 → entry o i ≡ entry o j → ⊥)
 
-pub accepted_order : (o : List ℤ) → order_check o ≡ Accepted → EachOnce o
+pub accepted_order : (o : List ℤ) → order_check o ≡ Ok tt → EachOnce o
 unfolding first_no_literal first_repeat
 accepted_order o e = let t = (accepted_iff o).0 e in (
   t.0,
-  (λ k h. (literal_iff (entry o k)).0 ((all_pass is_literal (pos 0) o).0 (omega (arith, t.0, t.1)) k (omega (arith, t.0)))),
+  (λ k h. (literal_iff (entry o k)).0 (not_fails (is_literal (entry o k)) (fails_before_first no_literal o k (pos 0) (omega (arith, t.1))))),
   λ i j a b q.
       let f = (least (repeats o) (length o)).before j (omega (arith, t.2)) in
       subst T f ((repeats_iff o j).1 (i, a, q)),
 )
 
-order_accepted : (o : List ℤ) → EachOnce o → order_check o ≡ Accepted
+pub accepted_long : (o : List ℤ) → order_check o ≡ Ok tt → length o ≡ 1458
+accepted_long o e = (accepted_order o e).0
+
+pub accepted_literals : (o : List ℤ) → order_check o ≡ Ok tt → Literals o
+accepted_literals o e = let a = accepted_order o e in λ i h. a.1 i (omega (arith, h, a.0))
+
+order_accepted : (o : List ℤ) → EachOnce o → order_check o ≡ Ok tt
 unfolding first_no_literal first_repeat
 order_accepted o h = (accepted_iff o).1 (
   h.0,
-  omega (arith, h.0, (all_pass is_literal (pos 0) o).1 (λ k b. (literal_iff (entry o k)).1 (h.1 k (omega (arith, h.0))))),
+  omega (arith, h.0, position_or_len_is no_literal o (length o) (pos 0) (omega arith) (λ k b. fails_not (is_literal (entry o k)) ((literal_iff (entry o k)).1 (h.1 k (omega (arith, h.0))))) (λ b. absurd (omega arith))),
   omega (arith, h.0, least_is (repeats o) (length o) (length o) no_repeat),
 )
   where
@@ -156,7 +166,7 @@ default_at l h =
     let r = default_place (table_place l) (place_below l h) in
     place_once (entry default_order (table_place l)) l r.0 h r.1
 
-pub default_accepted : order_check default_order ≡ Accepted
+pub default_accepted : order_check default_order ≡ Ok tt
 default_accepted = order_accepted default_order (
   default_long,
   (λ k h. (default_place k h).0),

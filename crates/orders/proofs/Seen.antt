@@ -1,5 +1,5 @@
--- The table of the literals that have come by while an order is scanned: after n entries a literal's place has a 1 if it is one of them,
--- and else a 0. No two literals share a place, so a literal that is read changes what is told of itself alone.
+-- The table of the literals that have come by while an order is scanned: after n entries a literal's place tells whether it is one of
+-- them. No two literals share a place, so a literal that is read changes what is told of itself alone.
 -- Assumes nothing.
 use mathlib.Core.Path.{◌≡◌, refl, ap, sym, ◌∙◌}
 use mathlib.Core.Bool.{Bool, true, false, ◌||◌}
@@ -11,58 +11,44 @@ use native.Mathlib.Omega.{arith}
 use lib.IntN.{ℤ}
 use lib.ListN.{length, get_or, set, replicate, get_or-replicate, length-set}
 use lib.Seq.{get_or-set_same, get_or-set_other}
-use Rattle.grid.specs.Counting.{tick}
 use Rattle.grid.proofs.Table.{true_is, false_is}
 use Rattle.clauses.specs.Literal.{Literal}
 use Rattle.orders.specs.Order.{same, repeats}
 use Rattle.orders.specs.Place.{table_place}
 use Rattle.orders.proofs.Orders.{entry, among, among_none, among_more, same_iff, place_below, place_once}
 
-tick_zero : (b : Bool) → tick b ≡ 0 → b ≡ false
-tick_zero true e = absurd (omega arith)
-tick_zero false e = refl
-
-tick_some : (b : Bool) → (tick b ≡ 0 → ⊥) → b ≡ true
-tick_some true n = refl
-tick_some false n = absurd (n refl)
-
 module _ (o : List ℤ) where
   -- what the table has after n entries
-  pub record Seen (n : ℕ) (seen : List ℕ) : Type 0 where
+  pub record Seen (n : ℕ) (seen : List Bool) : Type 0 where
     pub long : length seen ≡ 1458
-    pub told : (l : ℤ) → Literal l → get_or seen (table_place l) 0 ≡ tick (among o n l)
+    pub told : (l : ℤ) → Literal l → get_or seen (table_place l) false ≡ among o n l
 
-  pub seen_none : Seen 0 (replicate 1458 0)
-  seen_none = record { long = refl; told = λ l h. rw (among_none o l) (get_or-replicate 1458 (table_place l) 0 0 (place_below l h)) }
+  pub seen_none : Seen 0 (replicate 1458 false)
+  seen_none = record { long = refl; told = λ l h. rw (among_none o l) (get_or-replicate 1458 (table_place l) false false (place_below l h)) }
 
   -- entry n is read, whose place is `at`: the table tells whether it is a repeat, and then has it too
-  pub record Read (n : ℕ) (seen : List ℕ) (at : ℕ) : Type 0 where
-    pub new : get_or seen at 0 ≡ 0 → repeats o n ≡ false
-    pub repeat : (get_or seen at 0 ≡ 0 → ⊥) → repeats o n ≡ true
-    pub more : Seen (n + 1) (set seen at 1)
+  pub record Read (n : ℕ) (seen : List Bool) (at : ℕ) : Type 0 where
+    pub is : get_or seen at false ≡ repeats o n
+    pub more : Seen (n + 1) (set seen at true)
 
-  module _ (n : ℕ) (seen : List ℕ) (s : Seen n seen) (h : Literal (entry o n)) (at : ℕ) (e : at ≡ table_place (entry o n)) where
-    here : get_or seen at 0 ≡ tick (repeats o n)
+  module _ (n : ℕ) (seen : List Bool) (s : Seen n seen) (h : Literal (entry o n)) (at : ℕ) (e : at ≡ table_place (entry o n)) where
+    here : get_or seen at false ≡ repeats o n
     unfolding repeats
     here = rw e (s.told (entry o n) h)
 
-    each : (l : ℤ) → Literal l → Dec (table_place l ≡ at) → get_or (set seen at 1) (table_place l) 0 ≡ tick (same (entry o n) l || among o n l)
+    each : (l : ℤ) → Literal l → Dec (table_place l ≡ at) → get_or (set seen at true) (table_place l) false ≡ same (entry o n) l || among o n l
     each l i (yes q) =
         let t = true_is (same (entry o n) l) ((same_iff (entry o n) l).1 (place_once (entry o n) l h i (sym (q ∙ e)))) in
-        rw (q, get_or-set_same seen at 1 0 (omega (arith, s.long, place_below (entry o n) h)), t)
+        rw (q, get_or-set_same seen at true false (omega (arith, s.long, place_below (entry o n) h)), t)
     each l i (no q) =
         let f = false_is (same (entry o n) l) (λ t. q (ap table_place (sym ((same_iff (entry o n) l).0 t)) ∙ sym e)) in
-        get_or-set_other seen at (table_place l) 1 0 q ∙ s.told l i ∙ ap (λ b. tick (b || among o n l)) (sym f)
+        get_or-set_other seen at (table_place l) true false q ∙ s.told l i ∙ ap (λ b. b || among o n l) (sym f)
 
-    more : Seen (n + 1) (set seen at 1)
+    more : Seen (n + 1) (set seen at true)
     more = record {
-      long = length-set seen at 1 ∙ s.long;
+      long = length-set seen at true ∙ s.long;
       told = λ l i. rw (add-one n, among_more o l n) (each l i (ℕ_discrete (table_place l) at));
     }
 
     pub entry_read : Read n seen at
-    entry_read = record {
-      new = λ z. tick_zero (repeats o n) (sym here ∙ z);
-      repeat = λ f. tick_some (repeats o n) (λ z. f (here ∙ z));
-      more = more;
-    }
+    entry_read = record { is = here; more = more }

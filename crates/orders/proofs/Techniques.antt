@@ -18,15 +18,17 @@ use Rattle.clauses.specs.declared.Shape.{Shape}
 use Rattle.clauses.proofs.Members.{member_iff}
 use Rattle.orders.specs.Technique.{SetWithin, AtLeast, technique_of, unit_minimal, unit_extended, trials_minimal, trials_extended}
 use Rattle.orders.specs.declared.technique.Technique.{Technique}
-use Rattle.orders.specs.declared.technique.Numbered.TheVariants.{Known, Unknown}
+use Rattle.std.specs.Prelude.{Result, Ok, Err}
+use Rattle.grid.specs.declared.Refusal.{Refusal}
+use Rattle.grid.specs.declared.Refusal.TheVariants as refusal
 
 -- what holds of the four techniques under their numbers holds of every technique that has a number
 module _ (P : ℕ → Technique → Type 0) (one : P 1 unit_minimal) (two : P 2 unit_extended) (three : P 3 trials_minimal) (four : P 4 trials_extended) where
-  each_technique : (n : ℕ) (t : Technique) → technique_of n ≡ Known t → P n t
+  each_technique : (n : ℕ) (t : Technique) → technique_of n ≡ Ok t → P n t
   unfolding technique_of
   each_technique n t e = go (ℕ_discrete n 1) (ℕ_discrete n 2) (ℕ_discrete n 3) (ℕ_discrete n 4)
     where
-      known : (m : ℕ) (u : Technique) → P m u → technique_of m ≡ Known u → n ≡ m → P n t
+      known : (m : ℕ) (u : Technique) → P m u → technique_of m ≡ Ok u → n ≡ m → P n t
       known m u p k q = let same : u ≡ t = cc in rw (q, ← same) p
 
       go : Dec (n ≡ 1) → Dec (n ≡ 2) → Dec (n ≡ 3) → Dec (n ≡ 4) → P n t
@@ -35,7 +37,7 @@ module _ (P : ℕ → Technique → Type 0) (one : P 1 unit_minimal) (two : P 2 
       go (no a) (no b) (yes c) d = known 3 trials_minimal three refl c
       go (no a) (no b) (no c) (yes d) = known 4 trials_extended four refl d
       go (no a) (no b) (no c) (no d) =
-          let none : Unknown ≡ Known t = rw (ne_eqb n 1 a, ne_eqb n 2 b, ne_eqb n 3 c, ne_eqb n 4 d) at e in
+          let none : ◌≡◌ {A = Result Technique Refusal} (Err refusal.Technique) (Ok t) = rw (ne_eqb n 1 a, ne_eqb n 2 b, ne_eqb n 3 c, ne_eqb n 4 d) at e in
           let z : ◌≡◌ {A = ℕ} 0 1 = cc in absurd (omega arith)
 
 -- document 01: the same, 1 below 2, 3 and 4, 2 below 4, 3 below 4
@@ -48,7 +50,7 @@ holds a = ((λ x. tt), λ x. a)
 fails : {A : Type 0} → (A → ⊥) → A ↔ T false
 fails f = (f, λ x. absurd x)
 
-pub at_least_table : (m n : ℕ) (t u : Technique) → technique_of m ≡ Known t → technique_of n ≡ Known u → AtLeast t u ↔ T (same_or_below m n)
+pub at_least_table : (m n : ℕ) (t u : Technique) → technique_of m ≡ Ok t → technique_of n ≡ Ok u → AtLeast t u ↔ T (same_or_below m n)
 at_least_table m n t u p q =
     each_technique (λ m t. AtLeast t u ↔ T (same_or_below m n))
     (row 1 unit_minimal (holds (tt, λ x. x)) (holds (tt, λ x. x)) (holds (tt, λ x. tt)) (holds (tt, λ x. tt)))

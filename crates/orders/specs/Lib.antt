@@ -1,3 +1,4 @@
 pub mod Technique
 pub mod Order
 pub mod Place
+pub mod Checked

@@ -1,10 +1,10 @@
 -- The order of trials: its default, and the operator's check of it.
-use Rattle.std.specs.Prelude.{Bool, false, cond, not, List, [], ◌∷◌, ℕ, suc, eqb, ltb, ℤ, pos, negsuc, length, get_or}
-use Rattle.grid.specs.Counting.{all, first_at, least_from}
-use Rattle.grid.specs.Refusals.{refusal}
-use Rattle.grid.specs.declared.Checked.{Checked}
-use Rattle.grid.specs.declared.Checked.TheVariants.{Accepted, Refused}
-use Rattle.clauses.specs.Literal.{is_literal}
+use Rattle.std.specs.Prelude.{Bool, false, cond, not, List, [], ◌∷◌, ℕ, suc, ◌<◌, eqb, ltb, ℤ, pos, negsuc, length, get_or, Result, Ok, Err}
+use Rattle.std.specs.List.{position_or_len}
+use Rattle.grid.specs.Counting.{all, least_from}
+use Rattle.grid.specs.declared.Refusal.{Refusal}
+use Rattle.grid.specs.declared.Refusal.TheVariants.{OrderLength, OrderEntry, OrderRepeat}
+use Rattle.clauses.specs.Literal.{Literal, is_literal}
 use Rattle.clauses.specs.Clauses.{range, over}
 
 -- +1, −1, +2, −2 to −729
@@ -17,7 +17,7 @@ default_ceiling = 1062882
 
 -- the place of the first entry that is zero or outside −729 to 729, or the length
 unfoldable pub first_no_literal : List ℤ → ℕ
-first_no_literal o = first_at (λ l. not (is_literal l)) o
+first_no_literal o = position_or_len (λ l. not (is_literal l)) o
 
 -- two numbers are the same
 abbrev pub same : ℤ → ℤ → Bool
@@ -35,9 +35,13 @@ unfoldable pub first_repeat : List ℤ → ℕ
 first_repeat o = least_from 0 (length o) (repeats o)
 
 -- 22: not 1,458 entries; 23: the first that is no literal; 24: the first that is a repeat
-unfoldable pub order_check : List ℤ → Checked
+unfoldable pub order_check : List ℤ → Result (Unit {0}) Refusal
 order_check o =
     cond (eqb (length o) 1458)
-    (cond (ltb (first_no_literal o) 1458) (Refused (refusal 23 (first_no_literal o)))
-    (cond (ltb (first_repeat o) 1458) (Refused (refusal 24 (first_repeat o))) Accepted))
-    (Refused (refusal 22 0))
+    (cond (ltb (first_no_literal o) 1458) (Err (OrderEntry (first_no_literal o)))
+    (cond (ltb (first_repeat o) 1458) (Err (OrderRepeat (first_repeat o))) (Ok tt)))
+    (Err OrderLength)
+
+-- every entry of an order is a literal
+abbrev pub Literals : List ℤ → Type 0
+Literals o = (i : ℕ) → i < length o → Literal (get_or o i (pos 0))

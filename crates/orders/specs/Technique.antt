@@ -1,12 +1,10 @@
 -- The four techniques, and which is at least as strong as which.
-use Rattle.std.specs.Prelude.{true, false, cond, ℕ, T, eqb}
-use Rattle.grid.specs.Refusals.{refusal}
+use Rattle.std.specs.Prelude.{Bool, true, false, cond, ℕ, T, eqb, Result, Ok, Err}
 use Rattle.grid.specs.declared.Refusal.{Refusal}
+use Rattle.grid.specs.declared.Refusal.TheVariants as refusal
 use Rattle.clauses.specs.declared.ClauseSet.{ClauseSet}
 use Rattle.clauses.specs.declared.ClauseSet.TheVariants.{Minimal, Extended}
 use Rattle.orders.specs.declared.technique.Technique.{Technique}
-use Rattle.orders.specs.declared.technique.Numbered.{Numbered}
-use Rattle.orders.specs.declared.technique.Numbered.TheVariants.{Known, Unknown}
 
 -- 1: unit on set 1
 abbrev pub unit_minimal : Technique
@@ -24,16 +22,22 @@ trials_minimal = record { set = Minimal; trials = true }
 abbrev pub trials_extended : Technique
 trials_extended = record { set = Extended; trials = true }
 
--- the technique of a number
-unfoldable pub technique_of : ℕ → Numbered
-technique_of n =
-    cond (eqb n 1) (Known unit_minimal)
-    (cond (eqb n 2) (Known unit_extended) (cond (eqb n 3) (Known trials_minimal) (cond (eqb n 4) (Known trials_extended) Unknown)))
+-- the number of the technique with that set, and with trials or without
+abbrev pub number_in : ClauseSet → Bool → ℕ
+number_in Minimal false = 1
+number_in Extended false = 2
+number_in Minimal true = 3
+number_in Extended true = 4
 
--- on where there is a technique; 21: there is none
-abbrev pub on_known : {A : Type 0} → Numbered → (Refusal → A) → (Technique → A) → A
-on_known (Known t) refused k = k t
-on_known Unknown refused k = refused (refusal 21 0)
+-- the number of a technique
+abbrev pub number_of : Technique → ℕ
+number_of t = number_in t.set t.trials
+
+-- the technique of a number
+unfoldable pub technique_of : ℕ → Result Technique Refusal
+technique_of n =
+    cond (eqb n 1) (Ok unit_minimal)
+    (cond (eqb n 2) (Ok unit_extended) (cond (eqb n 3) (Ok trials_minimal) (cond (eqb n 4) (Ok trials_extended) (Err refusal.Technique))))
 
 -- the clauses of one set are among those of the other
 abbrev pub SetWithin : ClauseSet → ClauseSet → Type 0

@@ -1,13 +1,11 @@
 // The order of trials: a list of 1,458 literals, each once.
-ghost use Rattle.std.specs.Prelude.{◌≡◌};
-ghost use Rattle.grid.specs.Refusals.{refusal};
-ghost use Rattle.grid.specs.declared.Checked.TheVariants.{Refused};
+ghost use Rattle.std.specs.Prelude.{◌≡◌, Ok};
 ghost use Rattle.clauses.specs.Literal.{Literal};
 ghost use Rattle.orders.specs.Order.{default_order, order_check};
 ghost use Rattle.orders.specs.Place.{table_place};
 
 use clauses::literal;
-use grid::{Checked, Refusal};
+use grid::Refusal;
 
 // How many literals there are.
 pub const ENTRIES: usize = 1458;
@@ -20,20 +18,11 @@ pub fn default_order() -> [i16; ENTRIES]
     ensures { result ≡ default_order }
 {
     let mut order = [0i16; ENTRIES];
-    let mut k = 0;
-    while k < 729 {
+    for k in 0..729 {
         order[2 * k] = literal::positive(k);
         order[2 * k + 1] = literal::negative(k);
-        k += 1;
     }
     order
-}
-
-// A refusal at a place of the order.
-fn refused(number: u32, place: usize) -> Checked
-    ensures { result ≡ Refused (refusal number place) }
-{
-    Checked::Refused(Refusal { number, place })
 }
 
 // The place of a literal in a table of all: +v at 2 (v - 1), and -v after it.
@@ -45,32 +34,52 @@ fn table_place(l: i16) -> usize
     if l < 0 { 2 * mark + 1 } else { 2 * mark }
 }
 
-// The operator's check of an order, refusals 22 to 24, in one pass: a table tells which literals have come by. The first repeat is only
-// remembered, since an entry that is no literal is reported before it wherever it stands.
-pub fn check_order(order: &[i16]) -> Checked
+// The operator's check of an order, in one pass: a table tells which literals have come by. The first repeat is only remembered, since an entry
+// that is no literal is reported before it wherever it stands.
+pub fn check_order(order: &[i16]) -> Result<(), Refusal>
     ensures { result ≡ order_check order.now }
 {
     if order.len() != ENTRIES {
-        return refused(22, 0);
+        return Err(Refusal::OrderLength);
     }
-    let mut seen = [0u8; ENTRIES];
-    let mut repeat = ENTRIES;
-    let mut i = 0;
-    while i < ENTRIES {
+    let mut seen = [false; ENTRIES];
+    let mut repeat = None;
+    for i in 0..ENTRIES {
         let l = order[i];
         if !literal::is_literal(l) {
-            return refused(23, i);
+            return Err(Refusal::OrderEntry(i));
         }
         let at = table_place(l);
-        let here = if seen[at] == 0 { ENTRIES } else { i };
-        if here < repeat {
-            repeat = here;
+        if seen[at] {
+            repeat = repeat.or(Some(i));
         }
-        seen[at] = 1;
-        i += 1;
+        seen[at] = true;
     }
-    if repeat < ENTRIES {
-        return refused(24, repeat);
+    match repeat {
+        Some(i) => Err(Refusal::OrderRepeat(i)),
+        None => Ok(()),
     }
-    Checked::Accepted
+}
+
+// An order of trials that its check accepts.
+#[derive(Clone, Copy)]
+pub struct Order<'a> {
+    pub entries: &'a [i16; ENTRIES],
+    ghost accepted: { order_check entries.now ≡ Ok tt },
+}
+
+impl<'a> Order<'a> {
+    ghost use Rattle.orders.specs.Checked.{Checks};
+
+    // The entries as an order, or why they are none.
+    #[tactic(auto, using(crate::proofs::Orders::accepted_long))]
+    pub fn checked(entries: &'a [i16]) -> Result<Order<'a>, Refusal>
+        ensures { Checks entries.now result }
+    {
+        check_order(entries)?;
+        let Ok(entries) = <&[i16; ENTRIES]>::try_from(entries) else {
+            return Err(Refusal::OrderLength);
+        };
+        Ok(Order { entries })
+    }
 }

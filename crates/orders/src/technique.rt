@@ -1,21 +1,15 @@
 // Techniques: document 01's four, each a clause set with or without trials.
 ghost use Rattle.std.specs.Prelude.{◌≡◌};
-ghost use Rattle.orders.specs.Technique.{unit_minimal, unit_extended, trials_minimal, trials_extended, technique_of};
+ghost use Rattle.orders.specs.Technique.{unit_minimal, unit_extended, trials_minimal, trials_extended, number_of, technique_of};
 
 use clauses::ClauseSet;
+use grid::Refusal;
 
 // A technique: its clause set, and whether it makes trials.
-#[derive(Clone, Copy)]
+#[derive(Clone, Copy, Debug, PartialEq, Eq)]
 pub struct Technique {
     pub set: ClauseSet,
     pub trials: bool,
-}
-
-// The technique of a number, if there is one.
-#[derive(Drop)]
-pub enum Numbered {
-    Known(Technique),
-    Unknown,
 }
 
 impl Technique {
@@ -64,16 +58,33 @@ impl Technique {
         Technique::TRIALS_EXTENDED
     }
 
-    // The technique of a number of document 01, 1 to 4.
-    pub fn numbered(number: u32) -> Numbered
-        ensures { result ≡ technique_of number }
+    // Its number, 1 to 4.
+    pub fn number(self) -> u32
+        ensures { result ≡ number_of self }
     {
+        match (self.set, self.trials) {
+            (ClauseSet::Minimal, false) => 1,
+            (ClauseSet::Extended, false) => 2,
+            (ClauseSet::Minimal, true) => 3,
+            (ClauseSet::Extended, true) => 4,
+        }
+    }
+}
+
+// The technique of a number.
+impl TryFrom<u32> for Technique {
+    type Error = Refusal;
+
+    ghost try_from_gives = { λ number answer. answer ≡ technique_of number };
+
+    #[tactic(auto, unfolding(crate::specs::Technique::technique_of))]
+    fn try_from(number: u32) -> Result<Self, Refusal> {
         match number {
-            1 => Numbered::Known(Technique::unit_minimal()),
-            2 => Numbered::Known(Technique::unit_extended()),
-            3 => Numbered::Known(Technique::trials_minimal()),
-            4 => Numbered::Known(Technique::trials_extended()),
-            _ => Numbered::Unknown,
+            1 => Ok(Technique::unit_minimal()),
+            2 => Ok(Technique::unit_extended()),
+            3 => Ok(Technique::trials_minimal()),
+            4 => Ok(Technique::trials_extended()),
+            _ => Err(Refusal::Technique),
         }
     }
 }

@@ -1,111 +1,98 @@
-// An answer of a call as one 64-bit number, since an exported function returns no more: a function for each kind of answer.
+// An answer of a call as one 64-bit number, since an exported function returns no more: a refusal's number stands from bit 56 on, a small
+// result from bit 48 on, and a place or a count below.
+//
+//     pack     an answer, packed
+//     Packs    what a call answers where it does not refuse
 #![tactic(auto)]
 
-ghost use Rattle.std.specs.Prelude.{◌≡◌};
-ghost use Rattle.inference.specs.Call.{outcome_number};
-ghost use Rattle.packing.specs.Packed.{packed_refusal, packed_result, packed_counted, packed_check, packed_clause, packed_job, packed_search};
-ghost use Rattle.packing.specs.Packed.{packed_grade, packed_batch, packed_read};
+ghost use Rattle.std.specs.Prelude.{◌≡◌, ℕ};
+ghost use Rattle.packing.specs.Packed.{packed_refusal, packed, packed_nothing, packed_result, packed_counted, packed_end, packed_rating};
+ghost use Rattle.packing.specs.Packed.{packed_settings};
 
-use batch::BatchAnswer;
-use clauses::ClauseAnswer;
-use grading::GradeAnswer;
-use grid::{Checked, Refusal};
-use inference::job::{JobAnswer, Outcome};
-use jobfile::ReadAnswer;
-use search::SearchAnswer;
+use grading::Rating;
+use grid::Refusal;
+use jobfile::Settings;
+use trials::trial::End;
 
-const RESULT: u64 = 281474976710656;
+// What a call answers where it does not refuse, and the bits that it packs to.
+pub trait Packs {
+    ghost bits: { Self → ℕ };
 
-const NUMBER: u64 = 72057594037927936;
-
-fn pack_refusal(r: Refusal) -> u64
-    ensures { result ≡ packed_refusal r }
-{
-    (r.number % 256) as u64 * NUMBER + (r.place as u64) % RESULT
+    fn bits(self) -> u64
+        ensures { result ≡ bits self };
 }
 
-fn pack_result(n: usize) -> u64
-    ensures { result ≡ packed_result n }
-{
-    (n % 256) as u64 * RESULT
-}
+// No more than that it is accepted.
+impl Packs for () {
+    ghost bits = { packed_nothing };
 
-fn pack_counted(n: usize, count: u32) -> u64
-    ensures { result ≡ packed_counted n count }
-{
-    pack_result(n) + (count as u64) % RESULT
-}
-
-pub fn pack_check(c: Checked) -> u64
-    ensures { result ≡ packed_check c }
-{
-    match c {
-        Checked::Accepted => 0,
-        Checked::Refused(r) => pack_refusal(r),
+    fn bits(self) -> u64 {
+        0
     }
 }
 
-pub fn pack_clause(a: ClauseAnswer) -> u64
-    ensures { result ≡ packed_clause a }
-{
-    match a {
-        ClauseAnswer::Length(n) => pack_result(n),
-        ClauseAnswer::Refused(r) => pack_refusal(r),
+// A small result, such as the length of a clause.
+impl Packs for usize {
+    ghost bits = { packed_result };
+
+    fn bits(self) -> u64 {
+        ((self % 256) as u64) << 48
     }
 }
 
-fn outcome_number(o: Outcome) -> usize
-    ensures { result ≡ outcome_number o }
-{
-    match o {
-        Outcome::Solved => 1,
-        Outcome::Open => 2,
-        Outcome::Stopped => 3,
-        Outcome::Contradiction => 4,
+// A small result, such as how many completions there are.
+impl Packs for u32 {
+    ghost bits = { packed_result };
+
+    fn bits(self) -> u64 {
+        (self as usize).bits()
     }
 }
 
-pub fn pack_job(a: JobAnswer) -> u64
-    ensures { result ≡ packed_job a }
+// A small result with a count, which by its type is within its bits.
+fn counted(small: u32, count: u32) -> u64
+    ensures { result ≡ packed_counted small count }
 {
-    match a {
-        JobAnswer::Finished(o, n) => pack_counted(outcome_number(o), n),
-        JobAnswer::Refused(r) => pack_refusal(r),
+    small.bits() + u64::from(count)
+}
+
+impl Packs for End {
+    ghost bits = { packed_end };
+
+    fn bits(self) -> u64 {
+        counted(self.outcome.number(), self.count)
     }
 }
 
-pub fn pack_search(a: SearchAnswer) -> u64
-    ensures { result ≡ packed_search a }
-{
-    match a {
-        SearchAnswer::Counted(n) => pack_result(n as usize),
-        SearchAnswer::Refused(r) => pack_refusal(r),
+impl Packs for Rating {
+    ghost bits = { packed_rating };
+
+    fn bits(self) -> u64 {
+        counted(self.verdict.number(), self.trials)
     }
 }
 
-pub fn pack_grade(a: GradeAnswer) -> u64
-    ensures { result ≡ packed_grade a }
-{
-    match a {
-        GradeAnswer::Graded(v, n) => pack_counted(v as usize, n),
-        GradeAnswer::Refused(r) => pack_refusal(r),
+impl Packs for Settings {
+    ghost bits = { packed_settings };
+
+    fn bits(self) -> u64 {
+        counted(self.technique, self.ceiling)
     }
 }
 
-pub fn pack_batch(a: BatchAnswer) -> u64
-    ensures { result ≡ packed_batch a }
+// A refusal's number with the place that it names.
+fn pack_refusal(refusal: Refusal) -> u64
+    ensures { result ≡ packed_refusal refusal }
 {
-    match a {
-        BatchAnswer::Ran => 0,
-        BatchAnswer::Refused(r) => pack_refusal(r),
-    }
+    (u64::from(refusal.number() % 256) << 56) + refusal.place() as u64 % (1 << 48)
 }
 
-pub fn pack_read(a: ReadAnswer) -> u64
-    ensures { result ≡ packed_read a }
+// An answer, packed.
+pub fn pack<T: Packs>(answer: Result<T, Refusal>) -> u64
+    ensures { result ≡ packed T.bits answer }
 {
-    match a {
-        ReadAnswer::Read(t, c) => pack_counted(t as usize, c),
-        ReadAnswer::Refused(r) => pack_refusal(r),
+    match answer {
+        Ok(given) => given.bits(),
+        Err(refusal) => pack_refusal(refusal),
     }
 }

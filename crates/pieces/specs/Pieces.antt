@@ -1,70 +1,83 @@
 -- A job file is pieces: body length (2 bytes), kind (2 bytes), body, little-endian. Kinds strictly rise: 1 grid, 2 technique, 3 ceiling,
 -- 4 order; 1 and 2 must be there.
-use Rattle.std.specs.Prelude.{cond, ◌&&◌, List, ℕ, zero, suc, ◌+◌, ◌-◌, eqb, leb, ltb, length}
-use Rattle.grid.specs.Refusals.{refusal}
+use Rattle.std.specs.Prelude.{Bool, true, cond, ◌&&◌, List, ℕ, zero, suc, ◌+◌, ◌-◌, eqb, leb, ltb, length, Option, None, Some, Result, Ok, Err}
+use Rattle.std.specs.Option.{ok_or}
+use Rattle.grid.specs.Refusals.{on_accepted}
+use Rattle.grid.specs.declared.Refusal.{Refusal}
+use Rattle.grid.specs.declared.Refusal.TheVariants.{PieceCut, PieceKind, PieceLength, PieceMissing}
 use Rattle.pieces.specs.Number.{word_at}
-use Rattle.pieces.specs.declared.piece.Bodies.{Bodies}
+use Rattle.pieces.specs.declared.piece.Kind.{Kind}
+use Rattle.pieces.specs.declared.piece.Kind.TheVariants.{Grid, Technique, Ceiling, Order}
 use Rattle.pieces.specs.declared.piece.Piece.{Piece}
-use Rattle.pieces.specs.declared.piece.Piece.TheVariants as piece
-use Rattle.pieces.specs.declared.piece.Pieces.{Pieces}
-use Rattle.pieces.specs.declared.piece.Pieces.TheVariants.{Whole, Refused}
+use Rattle.pieces.specs.declared.piece.Found.{Found}
+use Rattle.pieces.specs.declared.piece.Bodies.{Bodies}
 
--- the body lengths of the kinds 1 to 4
-unfoldable pub body_length : ℕ → ℕ
-body_length kind = cond (eqb kind 1) 81 (cond (eqb kind 2) 1 (cond (eqb kind 3) 4 2916))
+-- the numbers of the kinds
+abbrev pub number_of : Kind → ℕ
+number_of Grid = 1
+number_of Technique = 2
+number_of Ceiling = 3
+number_of Order = 4
 
--- a piece of a body length and a kind, with so many bytes left from its place on, after a piece of the kind `last`
-abbrev pub piece_of : ℕ → ℕ → ℕ → ℕ → ℕ → Piece
-piece_of long kind left at last =
+-- the kind of a number, if there is one
+abbrev pub kind_of : ℕ → Option Kind
+kind_of n =
+    cond (eqb n 1) (Some Grid)
+    (cond (eqb n 2) (Some Technique) (cond (eqb n 3) (Some Ceiling) (cond (eqb n 4) (Some Order) None)))
+
+-- the body lengths of the kinds
+abbrev pub body_length : Kind → ℕ
+body_length Grid = 81
+body_length Technique = 1
+body_length Ceiling = 4
+body_length Order = 2916
+
+-- a kind rises above the last one, if any came before
+abbrev pub rises : Option Kind → Kind → Bool
+rises None kind = true
+rises (Some last) kind = ltb (number_of last) (number_of kind)
+
+-- a piece of a body length and the number of a kind, with so many bytes left from its place on, after a piece of the kind `last`
+abbrev pub piece_of : ℕ → ℕ → ℕ → ℕ → Option Kind → Result Piece Refusal
+piece_of long number left at last =
     cond (leb 4 left && leb (4 + long) left)
-    (cond (ltb last kind && leb kind 4)
-    (cond (eqb long (body_length kind)) (piece.Whole kind (at + 4 + long)) (piece.Refused (refusal 33 at)))
-    (piece.Refused (refusal 32 at)))
-    (piece.Refused (refusal 31 at))
+    (on_accepted (ok_or (kind_of number) (PieceKind at)) Err λ kind. cond (rises last kind)
+    (cond (eqb long (body_length kind)) (Ok (record { kind = kind; next = at + 4 + long })) (Err (PieceLength at)))
+    (Err (PieceKind at)))
+    (Err (PieceCut at))
 
--- The piece at a place, after a piece of the kind `last` (0 before the first): its kind, and the place after it. 31: cut short, with fewer
+-- The piece at a place, after a piece of the kind `last`, if any: its kind, and the place after it. 31: cut short, with fewer
 -- bytes left than 4, or than 4 and the body length; 32: a kind that is unknown or does not rise; 33: a wrong body length.
-unfoldable pub piece_at : List ℕ → ℕ → ℕ → Piece
+unfoldable pub piece_at : List ℕ → ℕ → Option Kind → Result Piece Refusal
 piece_at f at last = piece_of (word_at f at) (word_at f (at + 2)) (length f - at) at last
 
--- where the body of the kind `own` begins, once a piece is read whose body begins at `at`
-abbrev pub body_place : ℕ → ℕ → ℕ → ℕ → ℕ
-body_place own kind at before = cond (eqb kind own) at before
-
--- the bodies with that of one piece more
-abbrev pub with_body : Bodies → ℕ → ℕ → Bodies
-with_body b kind at =
-    record {
-      grid = body_place 1 kind at b.grid;
-      technique = body_place 2 kind at b.technique;
-      ceiling = body_place 3 kind at b.ceiling;
-      order = body_place 4 kind at b.order;
-    }
+-- the bodies with that of one piece more, which begins at `at`
+abbrev pub with_body : Found → Kind → ℕ → Found
+with_body b Grid at = record b { grid = Some at }
+with_body b Technique at = record b { technique = Some at }
+with_body b Ceiling at = record b { ceiling = Some at }
+with_body b Order at = record b { order = Some at }
 
 -- no body
-abbrev pub no_bodies : Bodies
-no_bodies = record { grid = 0; technique = 0; ceiling = 0; order = 0 }
-
--- on where a piece is whole
-abbrev pub on_piece : Piece → (ℕ → ℕ → Pieces) → Pieces
-on_piece (piece.Whole kind next) k = k kind next
-on_piece (piece.Refused r) k = Refused r
+abbrev pub no_bodies : Found
+no_bodies = record { grid = None; technique = None; ceiling = None; order = None }
 
 -- the pieces from a place on, of which there are at most n: no bytes left is the end of the file
-unfoldable pub walk_from : ℕ → List ℕ → ℕ → ℕ → Bodies → Pieces
-walk_from zero f at last b = Whole b
+unfoldable pub walk_from : ℕ → List ℕ → ℕ → Option Kind → Found → Result Found Refusal
+walk_from zero f at last b = Ok b
 walk_from (suc n) f at last b =
-    cond (ltb at (length f)) (on_piece (piece_at f at last) (λ kind next. walk_from n f next kind (with_body b kind (at + 4)))) (Whole b)
+    cond (ltb at (length f)) (on_accepted (piece_at f at last) Err λ p. walk_from n f p.next (Some p.kind) (with_body b p.kind (at + 4))) (Ok b)
 
 -- the pieces of a file, of which there are no more than bytes
-abbrev pub walked : List ℕ → Pieces
-walked f = walk_from (length f) f 0 0 no_bodies
+abbrev pub walked : List ℕ → Result Found Refusal
+walked f = walk_from (length f) f 0 None no_bodies
 
 -- 34: at the end, the grid or the technique is missing
-abbrev pub complete : Pieces → Pieces
-complete (Whole b) = cond (eqb b.grid 0) (Refused (refusal 34 0)) (cond (eqb b.technique 0) (Refused (refusal 34 0)) (Whole b))
-complete (Refused r) = Refused r
+abbrev pub complete : Found → Result Bodies Refusal
+complete b =
+    on_accepted (ok_or b.grid PieceMissing) Err λ g. on_accepted (ok_or b.technique PieceMissing) Err λ t.
+    Ok (record { grid = g; technique = t; ceiling = b.ceiling; order = b.order })
 
 -- the layout software's part
-unfoldable pub pieces_of : List ℕ → Pieces
-pieces_of f = complete (walked f)
+unfoldable pub pieces_of : List ℕ → Result Bodies Refusal
+pieces_of f = on_accepted (walked f) Err complete

@@ -1,22 +1,28 @@
-// Little-endian numbers of two bytes.
+// Little-endian numbers of two and four bytes.
 ghost use Rattle.std.specs.Prelude.{◌≡◌, ◌+◌, ◌≤◌, length};
-ghost use Rattle.pieces.specs.Number.{word_at, signed_of};
+ghost use Rattle.pieces.specs.Number.{word_at, double_at, signed_of};
 
 // The number of the two bytes at a place.
 pub fn word_at(file: &[u8], at: usize) -> u16
     requires { at + 2 ≤ length file.now }
     ensures { result ≡ word_at file.now at }
 {
-    (file[at] as u16) + 256 * (file[at + 1] as u16)
+    u16::from_le_bytes([file[at], file[at + 1]])
 }
 
-// The two's complement number of 16 bits.
-pub fn signed(word: u16) -> i16
-    ensures { result ≡ signed_of word }
+// The number of the four bytes at a place.
+pub fn double_at(file: &[u8], at: usize) -> u32
+    requires { at + 4 ≤ length file.now }
+    ensures { result ≡ double_at file.now at }
 {
-    if word < 32768 {
-        word as i16
-    } else {
-        -1 - ((65535 - word) as i16)
-    }
+    u32::from_le_bytes([file[at], file[at + 1], file[at + 2], file[at + 3]])
+}
+
+// The two's complement number of the two bytes at a place.
+#[tactic(auto, unfolding(crate::specs::Number::signed_of))]
+pub fn signed_at(file: &[u8], at: usize) -> i16
+    requires { at + 2 ≤ length file.now }
+    ensures { result ≡ signed_of (word_at file.now at) }
+{
+    word_at(file, at).cast_signed()
 }

@@ -1,149 +1,154 @@
 // The pieces of a job file: one reader for pieces of every kind, and the walk from piece to piece.
 ghost use Rattle.std.specs.Prelude.{◌≡◌, ◌<◌, length};
-ghost use Rattle.grid.specs.Refusals.{refusal};
-ghost use Rattle.pieces.specs.Pieces.{body_length, piece_at, body_place, with_body, walked, pieces_of};
+ghost use Rattle.pieces.specs.Pieces.{kind_of, body_length, rises, piece_at, with_body, walked, complete, pieces_of};
 
 use crate::number::word_at;
 use grid::Refusal;
 
-// Where the bodies of the four kinds begin; 0 for a kind that is not there, since no body begins before place 4.
+// The kinds of pieces, in the order in which they stand in a file.
+#[derive(Clone, Copy, PartialEq, Eq, PartialOrd, Ord)]
+enum Kind {
+    Grid,
+    Technique,
+    Ceiling,
+    Order,
+}
+
+// A whole piece: its kind, and the place after it.
 #[derive(Clone, Copy)]
+struct Piece {
+    kind: Kind,
+    next: usize,
+}
+
+// Where the bodies begin that the walk has come by.
+#[derive(Clone, Copy, Default)]
+struct Found {
+    grid: Option<usize>,
+    technique: Option<usize>,
+    ceiling: Option<usize>,
+    order: Option<usize>,
+}
+
+// Where the bodies of a file begin, of which grid and technique must be there.
+#[derive(Clone, Copy, Debug, PartialEq, Eq)]
 pub struct Bodies {
     pub grid: usize,
     pub technique: usize,
-    pub ceiling: usize,
-    pub order: usize,
+    pub ceiling: Option<usize>,
+    pub order: Option<usize>,
 }
 
-// What stands at a place: a whole piece, with its kind and the place after it; or a refusal.
-#[derive(Drop)]
-enum Piece {
-    Whole(usize, usize),
-    Refused(Refusal),
-}
+impl Kind {
+    // The kind of a number, if there is one. Not a TryFrom: the refusal names the piece's place, which no error of the number's own could.
+    fn of(number: u16) -> Option<Kind>
+        ensures { result ≡ kind_of number }
+    {
+        match number {
+            1 => Some(Kind::Grid),
+            2 => Some(Kind::Technique),
+            3 => Some(Kind::Ceiling),
+            4 => Some(Kind::Order),
+            _ => None,
+        }
+    }
 
-// What a file's pieces come to.
-#[derive(Drop)]
-pub enum Pieces {
-    Whole(Bodies),
-    Refused(Refusal),
-}
+    // How long a body of the kind is.
+    fn body_length(self) -> usize
+        ensures { result ≡ body_length self }
+    {
+        match self {
+            Kind::Grid => 81,
+            Kind::Technique => 1,
+            Kind::Ceiling => 4,
+            Kind::Order => 2916,
+        }
+    }
 
-// The body length of a kind, 1 to 4.
-fn body_length(kind: usize) -> usize
-    ensures { result ≡ body_length kind }
-{
-    match kind {
-        1 => 81,
-        2 => 1,
-        3 => 4,
-        _ => 2916,
+    // Whether the kind may follow the last one.
+    fn rises(self, last: Option<Kind>) -> bool
+        ensures { result ≡ rises last self }
+    {
+        last < Some(self)
     }
 }
 
-// A refusal of the piece that begins at a place.
-fn refused(number: u32, place: usize) -> Piece
-    ensures { result ≡ Piece.Refused (refusal number place) }
-{
-    Piece::Refused(Refusal { number, place })
-}
-
 // The piece at a place, after a piece of the kind `last`: refusals 31, 32 and 33.
-fn piece_at(file: &[u8], at: usize, last: usize) -> Piece
+#[tactic(auto, unfolding(crate::specs::Pieces::piece_at))]
+fn piece_at(file: &[u8], at: usize, last: Option<Kind>) -> Result<Piece, Refusal>
     requires { at < length file.now }
     ensures { result ≡ piece_at file.now at last }
 {
     let left = file.len() - at;
     if left < 4 {
-        return refused(31, at);
+        return Err(Refusal::PieceCut(at));
     }
-    let long = word_at(file, at) as usize;
+    let long = usize::from(word_at(file, at));
     if left < 4 + long {
-        return refused(31, at);
+        return Err(Refusal::PieceCut(at));
     }
-    let kind = word_at(file, at + 2) as usize;
-    if kind <= last {
-        return refused(32, at);
+    let kind = Kind::of(word_at(file, at + 2)).ok_or(Refusal::PieceKind(at))?;
+    if !kind.rises(last) {
+        return Err(Refusal::PieceKind(at));
     }
-    if 4 < kind {
-        return refused(32, at);
+    if long != kind.body_length() {
+        return Err(Refusal::PieceLength(at));
     }
-    if long != body_length(kind) {
-        return refused(33, at);
-    }
-    Piece::Whole(kind, at + 4 + long)
+    Ok(Piece {
+        kind,
+        next: at + 4 + long,
+    })
 }
 
-// Where the body of a kind begins, once a piece has been read: at the piece's body where it is of that kind, otherwise as before.
-fn body_place(own: usize, kind: usize, at: usize, before: usize) -> usize
-    ensures { result ≡ body_place own kind at before }
-{
-    if kind == own { at } else { before }
-}
+impl Found {
+    // Adds the body of one piece more.
+    fn add(&mut self, kind: Kind, at: usize)
+        ensures { self.new ≡ with_body self.old kind at }
+    {
+        match kind {
+            Kind::Grid => self.grid = Some(at),
+            Kind::Technique => self.technique = Some(at),
+            Kind::Ceiling => self.ceiling = Some(at),
+            Kind::Order => self.order = Some(at),
+        }
+    }
 
-// The bodies with that of one piece more.
-fn with_body(bodies: Bodies, kind: usize, at: usize) -> Bodies
-    ensures { result ≡ with_body bodies kind at }
-{
-    Bodies {
-        grid: body_place(1, kind, at, bodies.grid),
-        technique: body_place(2, kind, at, bodies.technique),
-        ceiling: body_place(3, kind, at, bodies.ceiling),
-        order: body_place(4, kind, at, bodies.order),
+    // 34: the grid or the technique is missing.
+    fn complete(self) -> Result<Bodies, Refusal>
+        ensures { result ≡ complete self }
+    {
+        let grid = self.grid.ok_or(Refusal::PieceMissing)?;
+        let technique = self.technique.ok_or(Refusal::PieceMissing)?;
+        Ok(Bodies {
+            grid,
+            technique,
+            ceiling: self.ceiling,
+            order: self.order,
+        })
     }
 }
 
 // The walk over the pieces, to the end of the file.
-fn walk(file: &[u8]) -> Pieces
+fn walk(file: &[u8]) -> Result<Found, Refusal>
     ensures { result ≡ walked file.now }
 {
-    let mut bodies = Bodies {
-        grid: 0,
-        technique: 0,
-        ceiling: 0,
-        order: 0,
-    };
-    let mut last = 0;
+    let mut found = Found::default();
+    let mut last = None;
     let mut at = 0;
+    // A while, since each piece says where the next one begins.
     while at < file.len() {
-        let piece = piece_at(file, at, last);
-        match piece {
-            Piece::Refused(refusal) => return Pieces::Refused(refusal),
-            Piece::Whole(kind, next) => {
-                bodies = with_body(bodies, kind, at + 4);
-                last = kind;
-                at = next;
-            }
-        }
+        let Piece { kind, next } = piece_at(file, at, last)?;
+        found.add(kind, at + 4);
+        last = Some(kind);
+        at = next;
     }
-    Pieces::Whole(bodies)
-}
-
-// 34: the grid or the technique is missing.
-fn missing() -> Pieces
-    ensures { result ≡ Pieces.Refused (refusal 34 0) }
-{
-    Pieces::Refused(Refusal {
-        number: 34,
-        place: 0,
-    })
+    Ok(found)
 }
 
 // The layout software's part: its pieces, refusals 31 to 33, then 34 where grid or technique is missing.
-pub fn read_pieces(file: &[u8]) -> Pieces
+#[tactic(auto, unfolding(crate::specs::Pieces::pieces_of))]
+pub fn read_pieces(file: &[u8]) -> Result<Bodies, Refusal>
     ensures { result ≡ pieces_of file.now }
 {
-    let found = walk(file);
-    match found {
-        Pieces::Refused(refusal) => Pieces::Refused(refusal),
-        Pieces::Whole(bodies) => {
-            if bodies.grid == 0 {
-                return missing();
-            }
-            if bodies.technique == 0 {
-                return missing();
-            }
-            Pieces::Whole(bodies)
-        }
-    }
+    walk(file)?.complete()
 }

@@ -3,6 +3,7 @@
 -- Assumes nothing.
 use mathlib.Core.Path.{◌≡◌, ap, sym, subst, ◌∙◌}
 use mathlib.Core.Logic.{inl, inr, ⊎_elim, ◌↔◌}
+use mathlib.Core.Bool.{Bool, true, false}
 use mathlib.Core.List.{List, Memᴰ}
 use Prim.Native.Nat.{ℕ, suc, ◌≤◌, ◌<◌}
 use native.Mathlib.Decide.{dec_lt}
@@ -10,6 +11,7 @@ use native.Mathlib.Omega.{arith}
 use lib.Dec.{T}
 use lib.IntN.{ℤ, pos, negsuc, neg_ℤ}
 use lib.ListN.{length, set}
+use Rattle.std.specs.Prelude.{Result, Ok, Err, IsErr, IfOk}
 use Rattle.clauses.specs.Clauses.{clauses_of}
 use Rattle.clauses.specs.Literal.{Literal}
 use Rattle.clauses.specs.Models.{givens}
@@ -17,7 +19,7 @@ use Rattle.clauses.specs.Shape.{place_of}
 use Rattle.clauses.specs.declared.ClauseSet.{ClauseSet}
 use Rattle.clauses.proofs.Members.{given_literal}
 use Rattle.closure.specs.Sets.{LiteralSet, Least}
-use Rattle.closure.specs.Closure.{With, UnitClosed}
+use Rattle.closure.specs.Closure.{With, Contradiction, UnitClosed}
 use Rattle.closure.specs.Marks.{has, is_decided, mark, blank, IsMarks}
 use Rattle.closure.specs.Propagation.{Answer, clash, closed, bind, join, unit_closure, Closes}
 use Rattle.closure.proofs.Sets.{least_mono, least_within}
@@ -28,15 +30,15 @@ use Rattle.closure.proofs.Propagation.{InMarks, unit_closure_ok, unit_closure_ma
 use Rattle.groups.specs.Groups.{group_at, group_in, index_at, kind_at, number_of, slot_at, PairKind}
 use Rattle.worklist.specs.Sums.{InSlots, sum_of}
 use Rattle.worklist.specs.Acting.{True, False, Undecided, Ready, Struck, Stepped}
-use Rattle.worklist.specs.declared.acting.Work.{Work}
+use Rattle.worklist.specs.declared.acting.State.{State}
+use Rattle.worklist.specs.declared.acting.Worklist.{Worklist}
 use Rattle.groups.proofs.Slots.{number_at, at_number, number_below, index_at_lem, place_at_lem, group_same, slot_group, slot_in, place_once}
 use Rattle.worklist.proofs.Sums.{sum_small, sum_large, byte_true}
 use Rattle.worklist.proofs.Rules.{closed_strikes, groups_closed}
 use Rattle.worklist.proofs.Literals.{has_set}
 use Rattle.worklist.proofs.Striking.{signs_differ}
-use Rattle.propagation.specs.Steps.{MarksOk, StateOk, StateLeft, answer_of, ClosesTo}
-use Rattle.propagation.specs.declared.close.Reached.{Reached}
-use Rattle.propagation.specs.declared.close.Reached.TheVariants.{Clash, Decided}
+use Rattle.propagation.specs.Steps.{MarksOk, Closed, answer_of, ComesTo, state_left}
+use Rattle.propagation.specs.declared.close.Clash.{Clash}
 use Rattle.propagation.proofs.Looking.{slot_lasts}
 
 -- the answer for some literals is that for others, where each are of the closure of the other
@@ -60,20 +62,23 @@ closed_quiet s m ok x h b = ⊎_elim
     (λ k. omega (arith, k.3, byte_true m (place_of (group_in x) k.0) (slot_lasts s (has m) ok.closed x h k.0 k.1 k.4)))
     (sum_small m (group_in x) ok.marks b)
 
-pub state_ready : (s : ClauseSet) {m a ls : List ℕ} {d : ℕ} {E : ℕ → Type 0} → StateOk s m a d → length ls ≡ 2952 → Ready s E m a ls (record { listed = 0; decided = d })
-state_ready s {m} ok long =
+pub state_ready : (s : ClauseSet) {st : State} {l : Worklist} {E : ℕ → Type 0} → Closed s st → (l.listed ≡ 0) × (length l.numbers ≡ 2952) → Ready s E st l
+state_ready s {st} ok none =
     record {
       marks = ok.marks.marks;
       sums = ok.sums;
       count = ok.count;
-      long = long;
-      room = omega arith;
-      numbers = λ i h. absurd (omega arith);
-      acting = λ x h b. absurd (closed_quiet s m ok.marks x h (let e = ok.sums.sums x h in omega (arith, e, b)));
+      long = none.1;
+      room = omega (arith, none.0);
+      numbers = λ i h. absurd (omega (arith, none.0));
+      acting = λ x h b. absurd (closed_quiet s st.marks ok.marks x h (let e = ok.sums.sums x h in omega (arith, e, b)));
     }
 
 -- with no clause listed the marks are closed
-module _ (s : ClauseSet) {m a ls : List ℕ} {w : Work} (r : Ready s (λ x. ⊥) m a ls w) (none : w.listed ≡ 0) (struck : Struck s m) where
+module _ (s : ClauseSet) {st : State} {l : Worklist} (r : Ready s (λ x. ⊥) st l) (none : l.listed ≡ 0) (struck : Struck s st.marks) where
+  abbrev m : List ℕ
+  m = st.marks
+
   ready_closed : UnitClosed (clauses_of s) (has m)
   ready_closed =
       groups_closed s (has m)
@@ -94,13 +99,22 @@ module _ (s : ClauseSet) {m a ls : List ℕ} {w : Work} (r : Ready s (λ x. ⊥)
         | no b ↦ omega arith
       ]
 
-  pub ready_state : StateOk s m a w.decided
+  pub ready_state : Closed s st
   ready_state = record { marks = record { marks = r.marks; closed = ready_closed }; sums = r.sums; count = r.count }
 
-pub stepped_closes : (s : ClauseSet) {m m' a' ls' : List ℕ} {w' : Work} → Stepped s m m' a' ls' w' → w'.listed ≡ 0 → ClosesTo s (λ l. T (has m l)) m' a' (Decided w'.decided)
+pub stepped_closes : (s : ClauseSet) {m : List ℕ} {st : State} {l : Worklist} → Stepped s m st l → l.listed ≡ 0 → ComesTo s (λ k. T (has m k)) (Ok st)
 stepped_closes s v none =
     let st = ready_state s v.ready none v.struck in
     record { answer = record { holds = v.keeps; closed = st.marks.closed; within = v.follows }; state = st }
+
+-- an error is a contradiction
+pub comes_err : {s : ClauseSet} {G : ℤ → Type 0} (r : Result State Clash) → IsErr r → Contradiction (Least (UnitClosed (clauses_of s)) G) → ComesTo s G r
+comes_err (Ok st) e x = absurd (let z : ◌≡◌ {A = Bool} false true = e in cc)
+comes_err (Err c) e x = record { answer = x; state = tt }
+
+pub state_left_err : (st : State) (r : Result (Unit {0}) Clash) → IsErr r → IsErr (state_left st r)
+state_left_err st (Ok u) e = e
+state_left_err st (Err c) e = e
 
 -- a place that becomes false leaves nothing to be struck
 pub struck_false : (s : ClauseSet) (m : List ℕ) (p : ℕ) → IsMarks m → Undecided m p → Struck s m → Struck s (set m p 2)
@@ -109,40 +123,33 @@ struck_false s m p i u h y b t q w d =
     ⊎_elim (λ x. (e (negsuc q)).1 (inl (h y b x q w d))) (λ x. absurd (signs_differ y p x)) ((e (pos (suc y))).0 t)
 
 -- the closure from steps on is that from the start on, the marks with one literal more
-pub closes_begun : (s : ClauseSet) (m m₀ m₁ : List ℕ) {a₁ ls₁ m₂ a₂ : List ℕ} {w₁ : Work} {l : ℤ} {r : Reached}
-    → ((k : ℤ) → T (has m₀ k) ↔ With (has m) l k) → Stepped s m₀ m₁ a₁ ls₁ w₁ → ClosesTo s (λ k. T (has m₁ k)) m₂ a₂ r → ClosesTo s (With (has m) l) m₂ a₂ r
-closes_begun s m m₀ m₁ {m₂ = m₂} {r = r} e v c =
+pub closes_begun : (s : ClauseSet) (m m₀ : List ℕ) {st : State} {ls : Worklist} {l : ℤ} {r : Result State Clash}
+    → ((k : ℤ) → T (has m₀ k) ↔ With (has m) l k) → Stepped s m₀ st ls → ComesTo s (λ k. T (has st.marks k)) r → ComesTo s (With (has m) l) r
+closes_begun s m m₀ {r = r} e v c =
     record {
-      answer = closes_between (λ k x. v.keeps k ((e k).1 x)) (λ k t. least_mono (λ S u. u) (λ j x. (e j).0 x) k (v.follows k t)) (answer_of r m₂) c.answer;
+      answer = closes_between (λ k x. v.keeps k ((e k).1 x)) (λ k t. least_mono (λ S u. u) (λ j x. (e j).0 x) k (v.follows k t)) (answer_of r) c.answer;
       state = c.state;
     }
 
 -- the answer is one of marks
-answer_marks : (s : ClauseSet) (m a : List ℕ) (r : Reached) → StateLeft s m a r → InMarks (answer_of r m)
-answer_marks s m a Clash h = tt
-answer_marks s m a (Decided d) h = h.marks.marks
+answer_marks : (s : ClauseSet) (r : Result State Clash) → IfOk r (Closed s) → InMarks (answer_of r)
+answer_marks s (Ok st) h = h.marks.marks
+answer_marks s (Err c) h = tt
 
 -- what closing comes to is the computed closure, byte for byte: of marks with one literal more,
-pub closes_computed : (s : ClauseSet) (m : List ℕ) (l : ℤ) → IsMarks m → Literal l → (T (is_decided m l) → ⊥) → {m' a' : List ℕ} {r : Reached} → ClosesTo s (With (has m) l) m' a' r
-    → answer_of r m' ≡ unit_closure (clauses_of s) (mark m l)
-closes_computed s m l i v n {m'} {a'} {r} c =
+pub closes_computed : (s : ClauseSet) (m : List ℕ) (l : ℤ) → IsMarks m → Literal l → (T (is_decided m l) → ⊥) → {r : Result State Clash} → ComesTo s (With (has m) l) r
+    → answer_of r ≡ unit_closure (clauses_of s) (mark m l)
+closes_computed s m l i v n {r} c =
     let cs = clauses_of s in
     let wf = well_formed s in
     let e = has_mark m l v (λ t. n ((or_iff (has m l) (has m (neg_ℤ l))).1 (inr t))) in
-    closes_unique (UnitClosed cs) (λ k. T (has (mark m l) k)) (answer_of r m') (unit_closure cs (mark m l)) (answer_marks s m' a' r c.state) (unit_closure_marks cs wf (mark m l) (is_marks_mark m l i v))
-    (closes_same (UnitClosed cs) (With (has m) l) (λ k. T (has (mark m l) k)) (λ k. ((e k).1, (e k).0)) (answer_of r m') c.answer) (unit_closure_ok cs wf (mark m l))
+    closes_unique (UnitClosed cs) (λ k. T (has (mark m l) k)) (answer_of r) (unit_closure cs (mark m l)) (answer_marks s r c.state) (unit_closure_marks cs wf (mark m l) (is_marks_mark m l i v))
+    (closes_same (UnitClosed cs) (With (has m) l) (λ k. T (has (mark m l) k)) (λ k. ((e k).1, (e k).0)) (answer_of r) c.answer) (unit_closure_ok cs wf (mark m l))
 
 -- and of a grid's givens
-pub givens_computed : (s : ClauseSet) (g : List ℕ) {m a : List ℕ} {r : Reached} → ClosesTo s (λ l. Memᴰ l (givens g)) m a r
-    → answer_of r m ≡ bind (join blank (givens g)) (unit_closure (clauses_of s))
-givens_computed s g {m} {a} {r} c =
+pub givens_computed : (s : ClauseSet) (g : List ℕ) {r : Result State Clash} → ComesTo s (λ l. Memᴰ l (givens g)) r
+    → answer_of r ≡ bind (join blank (givens g)) (unit_closure (clauses_of s))
+givens_computed s g {r} c =
     let cs = clauses_of s in
     let w = givens_closed cs (well_formed s) (givens g) (given_literal g) in
-    closes_unique (UnitClosed cs) (λ l. Memᴰ l (givens g)) (answer_of r m) (bind (join blank (givens g)) (unit_closure cs)) (answer_marks s m a r c.state) w.1 c.answer w.0
-
--- what closing comes to, case by case
-pub closes_answer : {s : ClauseSet} {G : ℤ → Type 0} {m a : List ℕ} {r : Reached} → ClosesTo s G m a r → (q : Reached) → r ≡ q → Closes (UnitClosed (clauses_of s)) G (answer_of q m)
-closes_answer {s} {G} {m} c q e = subst (λ x. Closes (UnitClosed (clauses_of s)) G (answer_of x m)) e c.answer
-
-pub closes_state : {s : ClauseSet} {G : ℤ → Type 0} {m a : List ℕ} {r : Reached} → ClosesTo s G m a r → (q : Reached) → r ≡ q → StateLeft s m a q
-closes_state {s} {G} {m} {a} c q e = subst (StateLeft s m a) e c.state
+    closes_unique (UnitClosed cs) (λ l. Memᴰ l (givens g)) (answer_of r) (bind (join blank (givens g)) (unit_closure cs)) (answer_marks s r c.state) w.1 c.answer w.0

@@ -23,7 +23,7 @@ use Rattle.clauses.proofs.Members.{givens_iff, given_variable}
 use Rattle.closure.specs.Sets.{IsLeast}
 use Rattle.closure.specs.Closure.{With, UnitClosed}
 use Rattle.closure.specs.Marks.{has, decided_in, blank}
-use Rattle.closure.specs.Propagation.{closed, Closes}
+use Rattle.closure.specs.Propagation.{closed}
 use Rattle.closure.proofs.Sets.{least_given, least_mono}
 use Rattle.closure.proofs.Marks.{zeros, has_blank, is_marks_blank}
 use Rattle.closure.proofs.Propagation.{closes_same}
@@ -31,8 +31,10 @@ use Rattle.groups.specs.Groups.{group_in}
 use Rattle.worklist.specs.Sums.{weight, sum_of, SumsOk}
 use Rattle.groups.proofs.Slots.{nines_below}
 use Rattle.worklist.proofs.Rules.{groups_closed}
-use Rattle.propagation.specs.Steps.{StateOk, answer_of, ClosesTo}
-use Rattle.propagation.specs.declared.close.Reached.{Reached}
+use Rattle.std.specs.Prelude.{Result}
+use Rattle.worklist.specs.declared.acting.State.{State}
+use Rattle.propagation.specs.Steps.{Closed, answer_of, ComesTo}
+use Rattle.propagation.specs.declared.close.Clash.{Clash}
 use Rattle.propagation.proofs.Closing.{closes_between}
 
 -- the sum of the q-th group of each kind where nothing is decided: a test that is computed
@@ -83,7 +85,7 @@ other_differs (suc i) e = omega arith
 blank_closed : (s : ClauseSet) → UnitClosed (clauses_of s) (has blank)
 blank_closed s = groups_closed s (has blank) (λ f n p b i j c d e t. absurd (has_blank _ t)) (λ f n p b k c t. absurd (has_blank _ (t (other k) (other_below k) (other_differs k))))
 
-pub blank_state : (s : ClauseSet) {a : List ℕ} → SumsOk Extended blank a → StateOk s blank a 0
+pub blank_state : (s : ClauseSet) {a : List ℕ} → SumsOk Extended blank a → Closed s (record { marks = blank; sums = a; decided = 0 })
 unfolding decided_in
 blank_state s r =
     record {
@@ -117,14 +119,17 @@ module _ (s : ClauseSet) (g : List ℕ) where
   before_skip i m n v = closes_same R (Before i) (Before (i + 1)) (λ l. (before_more i l, λ w. ⊎_elim (λ x. x) (λ x. absurd (n x.0)) (before_next i l w))) (closed m) v
 
   -- a given joins
-  pub before_given : (i : ℕ) (m : List ℕ) {m' a' : List ℕ} {r : Reached} (d : T (is_digit (byte g i))) → IsLeast R (Before i) (has m)
-      → ClosesTo s (With (has m) (pos (suc (9 * i + (byte g i - 49))))) m' a' r → Closes R (Before (i + 1)) (answer_of r m')
-  before_given i m {m'} {r = r} d v c =
+  pub before_given : (i : ℕ) (m : List ℕ) {r : Result State Clash} (d : T (is_digit (byte g i))) → IsLeast R (Before i) (has m)
+      → ComesTo s (With (has m) (pos (suc (9 * i + (byte g i - 49))))) r → ComesTo s (Before (i + 1)) r
+  before_given i m {r = r} d v c =
       let e : pos (9 * i + digit_of (byte g i)) ≡ pos (suc (9 * i + (byte g i - 49))) = ap pos (given_variable i (byte g i) d) in
-      closes_between
-      (λ l w. ⊎_elim (λ x. inl (v.holds l x)) (λ x. inr (x.1 ∙ e)) (before_next i l w))
-      (λ l w. ⊎_elim (λ x. least_mono (λ S u. u) (before_more i) l (v.within l x)) (λ x. least_given R l (i, omega arith, d, x ∙ sym e)) w)
-      (answer_of r m') c.answer
+      record {
+        answer = closes_between
+            (λ l w. ⊎_elim (λ x. inl (v.holds l x)) (λ x. inr (x.1 ∙ e)) (before_next i l w))
+            (λ l w. ⊎_elim (λ x. least_mono (λ S u. u) (before_more i) l (v.within l x)) (λ x. least_given R l (i, omega arith, d, x ∙ sym e)) w)
+            (answer_of r) c.answer;
+        state = c.state;
+      }
 
   -- those of all cells are the grid's
   pub before_all : (i : ℕ) → i ≡ 81 → (l : ℤ) → Before i l ↔ Memᴰ l (givens g)

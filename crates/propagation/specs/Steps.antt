@@ -1,13 +1,13 @@
 -- A state between two closures, and what a closure comes to.
-use Rattle.std.specs.Prelude.{◌≡◌, List, ℕ, ℤ}
+use Rattle.std.specs.Prelude.{◌≡◌, List, ℕ, ℤ, Result, Ok, Err, IfOk}
 use Rattle.clauses.specs.Clauses.{clauses_of}
 use Rattle.clauses.specs.declared.ClauseSet.{ClauseSet}
 use Rattle.closure.specs.Closure.{UnitClosed}
 use Rattle.closure.specs.Marks.{has, decided, IsMarks}
 use Rattle.closure.specs.Propagation.{Answer, clash, closed, Closes}
 use Rattle.worklist.specs.Sums.{SumsOk}
-use Rattle.propagation.specs.declared.close.Reached.{Reached}
-use Rattle.propagation.specs.declared.close.Reached.TheVariants.{Clash, Decided}
+use Rattle.worklist.specs.declared.acting.State.{State}
+use Rattle.propagation.specs.declared.close.Clash.{Clash}
 
 -- marks that the unit rule closes
 pub record MarksOk (s : ClauseSet) (m : List ℕ) : Type 0 where
@@ -15,22 +15,26 @@ pub record MarksOk (s : ClauseSet) (m : List ℕ) : Type 0 where
   pub closed : UnitClosed (clauses_of s) (has m)
 
 -- with their sums and their number: a state between two closures
-pub record StateOk (s : ClauseSet) (m a : List ℕ) (d : ℕ) : Type 0 where
-  pub marks : MarksOk s m
-  pub sums : SumsOk s m a
-  pub count : d ≡ decided m
+pub record Closed (s : ClauseSet) (st : State) : Type 0 where
+  pub marks : MarksOk s st.marks
+  pub sums : SumsOk s st.marks st.sums
+  pub count : st.decided ≡ decided st.marks
 
--- a closure's answer, by the marks that it leaves
-abbrev pub answer_of : Reached → List ℕ → Answer
-answer_of Clash m = clash
-answer_of (Decided d) m = closed m
-
--- where it is no contradiction, a state is left
-abbrev pub StateLeft : ClauseSet → List ℕ → List ℕ → Reached → Type 0
-StateLeft s m a Clash = Unit {0}
-StateLeft s m a (Decided d) = StateOk s m a d
+-- a closure's answer: the marks of the state, or a contradiction
+abbrev pub answer_of : Result State Clash → Answer
+answer_of (Ok st) = closed st.marks
+answer_of (Err c) = clash
 
 -- What closing the literals G comes to: a contradiction of their unit closure, or a state in which just its literals are marked.
-pub record ClosesTo (s : ClauseSet) (G : ℤ → Type 0) (m a : List ℕ) (r : Reached) : Type 0 where
-  pub answer : Closes (UnitClosed (clauses_of s)) G (answer_of r m)
-  pub state : StateLeft s m a r
+pub record ComesTo (s : ClauseSet) (G : ℤ → Type 0) (r : Result State Clash) : Type 0 where
+  pub answer : Closes (UnitClosed (clauses_of s)) G (answer_of r)
+  pub state : IfOk r (Closed s)
+
+-- the state that is left where there is no contradiction
+abbrev pub state_left : State → Result (Unit {0}) Clash → Result State Clash
+state_left st (Ok u) = Ok st
+state_left st (Err c) = Err c
+
+-- what closing the literals G in place comes to: a contradiction, or else the state that is left
+abbrev pub ClosesTo : ClauseSet → (ℤ → Type 0) → State → Result (Unit {0}) Clash → Type 0
+ClosesTo s G st r = ComesTo s G (state_left st r)

@@ -1,138 +1,111 @@
-// A test whether marks leave no legal full grid. It is a search of its own, which needs one full grid and not the smallest, so that it may
-// branch where the tree looks smallest. A plain attempt is enough for most marks; else attempts that survey follow, each with more nodes. All that
-// is promised is that marks which are refuted leave nothing.
+// A test whether a state leaves no legal full grid. It is a search of its own, which needs one full grid and not the smallest, so that it may
+// branch where the tree looks smallest. A plain attempt is enough for most states; else attempts that survey follow, each with more nodes. All
+// that is promised is that states which are refuted leave nothing.
 #![tactic(auto)]
 
-ghost use Rattle.std.specs.Prelude.{◌≡◌, true, List};
+ghost use Rattle.std.specs.Prelude.{◌≡◌, true, List, ◌<◌, OnOk};
 ghost use Rattle.clauses.specs.declared.ClauseSet.TheVariants.{Extended};
-ghost use Rattle.propagation.specs.Steps.{StateOk};
+ghost use Rattle.propagation.specs.Steps.{Closed};
 ghost use Rattle.completions.specs.Left.{left};
-ghost use Rattle.refutation.specs.Refuting.{TriedOk};
+ghost use Rattle.branching.specs.Branching.{Refuted};
 
-use branching::{Looked, group_at, look};
+use branching::{Look, Test};
 use clauses::ClauseSet;
 use clauses::decode::place;
-use propagation::close::{Reached, close_true};
+use propagation::close::{Clash, close_true};
+use worklist::acting::State;
 
-// What an attempt to refute marks comes to: they leave nothing, with what is left of the nodes allowed; they have become those of a full
-// grid; or the nodes are spent.
-#[derive(Drop)]
-pub(crate) enum Tried {
-    Refuted(u32),
+// Why an attempt does not refute a state: it has become that of a full grid, or the nodes allowed are spent.
+#[derive(Clone, Copy, PartialEq, Eq)]
+enum Unrefuted {
     Full,
     Spent,
 }
 
-// An attempt with so many nodes.
-fn refute_within(
-    marks: &mut [u8; 729],
-    sums: &mut [u16; 324],
-    list: &mut [u16; 2952],
-    decided: usize,
-    failures: &mut [u32; 729],
+// An attempt to refute states: how it looks at them before a branch, and how many nodes it may still have.
+#[derive(Drop)]
+struct Attempt {
+    look: Look,
     nodes: u32,
-    plain: bool,
-) -> Tried
-    requires { StateOk Extended marks.old sums.old decided }
-    ensures { TriedOk marks.old result }
-{
-    if nodes == 0 {
-        return Tried::Spent;
-    }
-    let looked = look(marks, sums, list, decided, failures, plain);
-    match looked {
-        Looked::Nothing => Tried::Refuted(nodes - 1),
-        Looked::Full => Tried::Full,
-        Looked::Branch(known, i) => {
-            let group = group_at(i);
-            let mut rest = nodes - 1;
-            let mut k = 0;
-            while k < 9 {
-                let p = place(group, k);
-                if marks[p] == 1 {
-                    return Tried::Spent;
+}
+
+impl Attempt {
+    // Each place of the group that the look names is tried.
+    #[cycle(refute)]
+    fn refute(&mut self, test: &mut Test, state: &mut State) -> Result<(), Unrefuted>
+        requires { Closed Extended state.old }
+        ensures { OnOk result (left state.old.marks ≡ List.[]) }
+    {
+        if self.nodes == 0 {
+            return Err(Unrefuted::Spent);
+        }
+        self.nodes -= 1;
+        match test.look(state, self.look) {
+            Err(Clash) => Ok(()),
+            Ok(None) => Err(Unrefuted::Full),
+            Ok(Some(group)) => {
+                for k in 0..9 {
+                    self.refute_place(test, state, place(group, k))?;
                 }
-                if marks[p] != 2 {
-                    let mut next = *marks;
-                    let mut next_sums = *sums;
-                    let assumed = close_true(
-                        &mut next,
-                        &mut next_sums,
-                        list,
-                        known,
-                        ClauseSet::Extended,
-                        p,
-                    );
-                    match assumed {
-                        Reached::Clash => {}
-                        Reached::Decided(more) => {
-                            let tried = refute_within(
-                                &mut next,
-                                &mut next_sums,
-                                list,
-                                more,
-                                failures,
-                                rest,
-                                plain,
-                            );
-                            match tried {
-                                Tried::Refuted(n) => {
-                                    rest = n;
-                                }
-                                Tried::Full => {
-                                    *marks = next;
-                                    return Tried::Full;
-                                }
-                                Tried::Spent => {
-                                    return Tried::Spent;
-                                }
-                            }
-                        }
-                    }
-                }
-                k += 1;
+                Ok(())
             }
-            Tried::Refuted(rest)
+        }
+    }
+
+    // A place is refuted if it is false, or if the closure with it is a contradiction or is refuted.
+    #[cycle(refute)]
+    fn refute_place(
+        &mut self,
+        test: &mut Test,
+        state: &mut State,
+        p: usize,
+    ) -> Result<(), Unrefuted>
+        requires { Closed Extended state.old × (p < 729) }
+        ensures { OnOk result ((state.new ≡ state.old) × Refuted state.old.marks p) }
+    {
+        match state.marks[p] {
+            0 => {}
+            1 => return Err(Unrefuted::Spent),
+            _ => return Ok(()),
+        }
+        let mut next = *state;
+        match close_true(&mut next, &mut test.list, ClauseSet::Extended, p) {
+            Err(Clash) => Ok(()),
+            Ok(()) => match self.refute(test, &mut next) {
+                Ok(()) => Ok(()),
+                Err(why) => {
+                    if why == Unrefuted::Full {
+                        *state = next;
+                    }
+                    Err(why)
+                }
+            },
         }
     }
 }
 
-// Attempts that survey, each with twice the nodes of the one before and going by where that one failed, until one is not spent. The marks
-// then become those of a full grid, where they are not refuted.
-fn refuted_by_surveys(
-    marks: &mut [u8; 729],
-    sums: &[u16; 324],
-    list: &mut [u16; 2952],
-    decided: usize,
-    failures: &mut [u32; 729],
-) -> bool
-    requires { StateOk Extended marks.old sums.now decided }
-    ensures { result ≡ true → left marks.old ≡ List.[] }
+// Whether the state is refuted by attempts that survey, each with twice the nodes of the one before and going by where that one failed, until
+// one is not spent. The state then becomes that of a full grid, where it is not refuted.
+fn refuted_by_surveys(test: &mut Test, state: &mut State) -> bool
+    requires { Closed Extended state.old }
+    ensures { result ≡ true → left state.old.marks ≡ List.[] }
 {
-    let mut nodes = 12u32;
-    while nodes < 16777216 {
-        let mut near = *marks;
-        let mut near_sums = *sums;
-        let tried = refute_within(
-            &mut near,
-            &mut near_sums,
-            list,
-            decided,
-            failures,
-            nodes,
-            false,
-        );
-        match tried {
-            Tried::Refuted(_) => {
+    for doublings in 0..21u32 {
+        let mut near = *state;
+        let mut attempt = Attempt {
+            look: Look::Survey,
+            nodes: 12 << doublings,
+        };
+        match attempt.refute(test, &mut near) {
+            Ok(()) => {
                 return true;
             }
-            Tried::Full => {
-                *marks = near;
+            Err(Unrefuted::Full) => {
+                *state = near;
                 return false;
             }
-            Tried::Spent => {}
+            Err(Unrefuted::Spent) => {}
         }
-        nodes = 2 * nodes;
     }
     false
 }
@@ -140,35 +113,23 @@ fn refuted_by_surveys(
 // The nodes of the plain attempt.
 const PLAIN: u32 = 160;
 
-// Whether the marks are shown to leave nothing: by a plain attempt, which is enough for most, or by those that survey. Where they are not, they
-// become those of a full grid that they leave, unless all attempts are spent.
-pub fn refuted(
-    marks: &mut [u8; 729],
-    sums: &[u16; 324],
-    list: &mut [u16; 2952],
-    decided: usize,
-    failures: &mut [u32; 729],
-) -> bool
-    requires { StateOk Extended marks.old sums.now decided }
-    ensures { result ≡ true → left marks.old ≡ List.[] }
+// Whether the state is shown to leave nothing: by a plain attempt, which is enough for most, or by those that survey. Where it is not, it
+// becomes that of a full grid that it leaves, unless all attempts are spent.
+pub fn refuted(test: &mut Test, state: &mut State) -> bool
+    requires { Closed Extended state.old }
+    ensures { result ≡ true → left state.old.marks ≡ List.[] }
 {
-    let mut near = *marks;
-    let mut near_sums = *sums;
-    let tried = refute_within(
-        &mut near,
-        &mut near_sums,
-        list,
-        decided,
-        failures,
-        PLAIN,
-        true,
-    );
-    match tried {
-        Tried::Refuted(_) => true,
-        Tried::Full => {
-            *marks = near;
+    let mut near = *state;
+    let mut attempt = Attempt {
+        look: Look::Plain,
+        nodes: PLAIN,
+    };
+    match attempt.refute(test, &mut near) {
+        Ok(()) => true,
+        Err(Unrefuted::Full) => {
+            *state = near;
             false
         }
-        Tried::Spent => refuted_by_surveys(marks, sums, list, decided, failures),
+        Err(Unrefuted::Spent) => refuted_by_surveys(test, state),
     }
 }

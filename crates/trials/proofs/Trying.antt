@@ -1,6 +1,6 @@
 -- What a trial and the steps after it come to.
 -- Assumes nothing.
-use mathlib.Core.Path.{◌≡◌, refl, ap, sym, subst, ◌∙◌}
+use mathlib.Core.Path.{◌≡◌, refl, ap, subst, ◌∙◌}
 use mathlib.Core.Logic.{inl, inr, ⊎_elim}
 use mathlib.Core.Bool.{Bool, true, false, cond}
 use mathlib.Core.List.{List}
@@ -15,31 +15,17 @@ use Rattle.clauses.proofs.Signed.{literal_iff}
 use Rattle.clauses.specs.Clauses.{Clause}
 use Rattle.closure.specs.Marks.{has, is_decided, mark, decided, IsMarks}
 use Rattle.closure.specs.Propagation.{Answer, clash, unit_closure}
-use Rattle.closure.specs.Job.{Step, kept, refuted, broken, try, step_of, step, Walk, walked, ended, after, is_full, solved, stopped}
+use Rattle.closure.specs.Job.{Step, refuted, refute, try, step_of, step, Walk, walked, ended, after, is_full, solved, stopped}
 use Rattle.closure.proofs.Marks.{or_iff}
 use Rattle.worklist.proofs.Literals.{place_at, open_byte}
-use Rattle.propagation.specs.Steps.{answer_of}
-use Rattle.propagation.specs.declared.close.Reached.{Reached}
-use Rattle.propagation.specs.declared.close.Reached.TheVariants.{Clash, Decided}
 
 not_not : (b : Bool) → ((T b → ⊥) → ⊥) → T b
 not_not true n = tt
 not_not false n = absurd (n (λ t. t))
 
--- a trial by its two closures
-module _ (a b : Answer) (r : Reached) (m : List ℕ) (e : answer_of r m ≡ a) where
-  pub try_kept : {t : ℕ} → r ≡ Decided t → kept ≡ try a (λ u. b)
-  try_kept h = ap (λ x. try x (λ u. b)) (ap (λ x. answer_of x m) (sym h) ∙ e)
-
-  module _ (h : r ≡ Clash) (q : Reached) (n : List ℕ) (f : answer_of q n ≡ b) where
-    failed : try clash (λ u. answer_of q n) ≡ try a (λ u. b)
-    failed = ap (λ x. try x (λ u. answer_of q n)) (ap (λ x. answer_of x m) (sym h) ∙ e) ∙ ap (λ x. try a (λ u. x)) f
-
-    pub try_refuted : {t : ℕ} → q ≡ Decided t → refuted n ≡ try a (λ u. b)
-    try_refuted k = ap (λ x. try clash (λ u. answer_of x n)) (sym k) ∙ failed
-
-    pub try_broken : q ≡ Clash → broken ≡ try a (λ u. b)
-    try_broken k = ap (λ x. try clash (λ u. answer_of x n)) (sym k) ∙ failed
+-- a trial that fails, by the closure of the negation
+pub try_failed : {a b : Answer} → clash ≡ a → (n : Answer) → n ≡ b → refute n ≡ try a (λ u. b)
+try_failed {a} {b} e n f = ap refute f ∙ ap (λ x. try x (λ u. b)) e
 
 -- the negation of a literal
 pub negation_is : (l : ℤ) → Literal l → negation l ≡ neg_ℤ l

@@ -3,8 +3,7 @@
 use mathlib.Core.Path.{◌≡◌, refl, ap, sym, ◌∙◌}
 use mathlib.Core.Bool.{Bool, true, false}
 use mathlib.Core.List.{List}
-use Prim.Native.Nat.{ℕ, zero, suc, ◌+◌, ◌-◌, ◌≤◌, ◌<◌}
-use native.Mathlib.Omega.{arith}
+use Prim.Native.Nat.{ℕ, suc, ◌+◌, ◌≤◌, ◌<◌}
 use lib.IntN.{ℤ, pos}
 use lib.ListN.{length, get_or, drop, drop_of_length-le}
 use lib.Seq.{drop-cons}
@@ -50,10 +49,9 @@ module _ (cs : List Clause) (ceiling : ℕ) (o : List ℤ) where
   rest_end i m n f h = ap (λ x. walk cs ceiling x m n f) (sym (drop_of_length-le o h))
 
   -- one pass
-  pub passes_next : (k : ℕ) (m : List ℕ) (n : ℕ) (w : Walk) → 0 < k → w ≡ walk cs ceiling o m n false → passes cs ceiling k o m n ≡ next_pass w (passes cs ceiling (k - 1) o)
+  pub passes_next : (k j : ℕ) (m : List ℕ) (n : ℕ) (w : Walk) → k ≡ suc j → w ≡ walk cs ceiling o m n false → passes cs ceiling k o m n ≡ next_pass w (passes cs ceiling j o)
   unfolding passes
-  passes_next zero m n w h e = absurd (omega arith)
-  passes_next (suc k) m n w h e = let j : k ≡ suc k - 1 = omega arith in ap (λ x. next_pass x (passes cs ceiling k o)) (sym e) ∙ ap (λ x. next_pass w (passes cs ceiling x o)) j
+  passes_next k j m n w h e = ap (λ x. passes cs ceiling x o m n) h ∙ ap (λ x. next_pass x (passes cs ceiling j o)) (sym e)
 
   pub passes_end : (m : List ℕ) (n : ℕ) → opened m n ≡ passes cs ceiling 0 o m n
   unfolding passes

@@ -1,54 +1,76 @@
 -- What the functions of a job's steps give back, in the terms of the steps themselves.
-use Rattle.std.specs.Prelude.{◌≡◌, List, ℕ, ◌≤◌, ◌<◌, ℤ, pos, length, get_or}
-use Rattle.clauses.specs.Literal.{Literal}
-use Rattle.clauses.specs.declared.ClauseSet.{ClauseSet}
-use Rattle.closure.specs.Marks.{decided}
+use Rattle.std.specs.Prelude.{◌≡◌, Bool, true, false, ◌||◌, List, ℕ, ◌≤◌, ◌<◌, ℤ, pos, neg_ℤ, length, get_or, Result, Ok, Err, IfOk}
+use Rattle.clauses.specs.Clauses.{clauses_of}
+use Rattle.closure.specs.Marks.{mark}
+use Rattle.closure.specs.Propagation.{unit_closure}
 use Rattle.closure.specs.Job as job
-use Rattle.propagation.specs.Steps.{StateOk}
+use Rattle.propagation.specs.Steps.{Closed}
+use Rattle.propagation.specs.declared.close.Clash.{Clash}
 use Rattle.trials.specs.Known.{KnownOk, PossibleOk}
-use Rattle.trials.specs.declared.trial.Shown.{Shown}
-use Rattle.trials.specs.declared.trial.Shown.TheVariants.{Kept, Refuted, Broken}
 use Rattle.trials.specs.declared.trial.End.{End}
-use Rattle.trials.specs.declared.trial.End.TheVariants.{Solved, Open, Stopped, Contradiction}
-use Rattle.trials.specs.declared.trial.Pass.{Pass}
-use Rattle.trials.specs.declared.trial.Pass.TheVariants.{Walked, Ended}
+use Rattle.trials.specs.declared.trial.Outcome.{Outcome}
+use Rattle.trials.specs.declared.trial.Outcome.TheVariants.{Solved, Open, Stopped, Contradiction}
+use Rattle.trials.specs.declared.trial.Progress.{Progress}
+use Rattle.trials.specs.declared.trial.Job.{Job}
 
--- every entry of an order is a literal
-abbrev pub Literals : List ℤ → Type 0
-Literals o = (i : ℕ) → i < length o → Literal (get_or o i (pos 0))
+-- the numbers of the outcomes that hosts are told
+abbrev pub outcome_number : Outcome → ℕ
+outcome_number Solved = 1
+outcome_number Open = 2
+outcome_number Stopped = 3
+outcome_number Contradiction = 4
 
--- a trial, as a step
-abbrev pub tried_of : Shown → List ℕ → job.Step
-tried_of Kept m = job.kept
-tried_of (Refuted d) m = job.refuted m
-tried_of Broken m = job.broken
+-- the end of that outcome, with that count
+abbrev pub end : Outcome → ℕ → End
+end o n = record { outcome = o; count = n }
 
--- A trial at marks m with sums a changes them only where the negation joins, and then what was possible still is. Where it succeeds, what is known
--- stays so.
-abbrev pub TriedOk : ClauseSet → List ℕ → List ℕ → List ℕ → List ℕ → List ℕ → Shown → Type 0
-TriedOk s m a m' a' ks Kept = (m' ≡ m) × (a' ≡ a) × KnownOk s m ks
-TriedOk s m a m' a' ks (Refuted d) = StateOk s m' a' d × ((bs : List ℕ) → PossibleOk s m bs → PossibleOk s m' bs)
-TriedOk s m a m' a' ks Broken = m' ≡ m
+-- a job that ends so at marks m, after n trials
+abbrev pub ended_at : Outcome → List ℕ → ℕ → job.End
+ended_at Solved m n = job.solved m n
+ended_at Open m n = job.opened m n
+ended_at Stopped m n = job.stopped m n
+ended_at Contradiction m n = job.contradiction n
 
 -- the end of a job
 abbrev pub end_of : End → List ℕ → job.End
-end_of (Solved n) m = job.solved m n
-end_of (Open n) m = job.opened m n
-end_of (Stopped n) m = job.stopped m n
-end_of (Contradiction n) m = job.contradiction n
+end_of e m = ended_at e.outcome m e.count
 
--- a pass, or a part of it
-abbrev pub walk_of : Pass → List ℕ → job.Walk
-walk_of (Walked d n f) m = job.walked m n f
-walk_of (Ended d e) m = job.ended (end_of e m)
+-- a job between two literals of its order
+pub record Walking (j : Job) (p : Progress) : Type 0 where
+  pub state : Closed j.set p.state
+  pub known : KnownOk j.set p.state.marks p.known
+  pub possible : PossibleOk j.set p.state.marks j.possible.now
+  pub within : p.count ≤ j.ceiling
 
--- marks and sums between two literals of an order, with the number decided, what is known and what is possible
-pub record Walking (s : ClauseSet) (m a ks ps : List ℕ) (d : ℕ) : Type 0 where
-  pub state : StateOk s m a d
-  pub known : KnownOk s m ks
-  pub possible : PossibleOk s m ps
+-- a trial that leaves marks m, as a step: it fails, or it does not, or neither the literal nor its negation is possible
+abbrev pub step_of : Result Bool Clash → List ℕ → job.Step
+step_of (Ok true) m = job.refuted m
+step_of (Ok false) m = job.kept
+step_of (Err c) m = job.broken
 
--- where the pass goes on, its count is at most the ceiling c; where the job ends, the number decided is that of the marks
-abbrev pub PassOk : ClauseSet → ℕ → List ℕ → List ℕ → List ℕ → List ℕ → Pass → Type 0
-PassOk s c m a ks ps (Walked d n f) = (n ≤ c) × Walking s m a ks ps d
-PassOk s c m a ks ps (Ended d e) = d ≡ decided m
+-- a trial of literal l, which changes the marks only where it fails
+pub record Tried (j : Job) (p : Progress) (l : ℤ) (q : Progress) (r : Result Bool Clash) : Type 0 where
+  pub step : step_of r q.state.marks ≡ job.try (unit_closure (clauses_of j.set) (mark p.state.marks l)) (λ u. unit_closure (clauses_of j.set) (mark p.state.marks (neg_ℤ l)))
+  pub marks : r ≡ Ok false → q.state.marks ≡ p.state.marks
+  pub count : q.count ≡ p.count
+  pub walking : IfOk r (λ f. Walking j q)
+
+-- a pass, or a part of it, after which a trial has failed or not, or the job ends
+abbrev pub walk_of : Result Bool Outcome → Progress → job.Walk
+walk_of (Ok f) p = job.walked p.state.marks p.count f
+walk_of (Err o) p = job.ended (ended_at o p.state.marks p.count)
+
+-- with what has failed before
+abbrev pub or_failed : Bool → Result Bool Outcome → Result Bool Outcome
+or_failed f (Ok g) = Ok (g || f)
+or_failed f (Err o) = Err o
+
+-- literal l of the order
+pub record Stepped (j : Job) (p : Progress) (l : ℤ) (q : Progress) (r : Result Bool Outcome) : Type 0 where
+  pub step : (f : Bool) → walk_of (or_failed f r) q ≡ job.after (job.step (clauses_of j.set) j.ceiling p.state.marks p.count l) p.state.marks p.count f (λ m n g. job.walked m n g)
+  pub walking : IfOk r (λ f. Walking j q)
+
+-- a pass along the order
+pub record Walked (j : Job) (p q : Progress) (r : Result Bool Outcome) : Type 0 where
+  pub walk : walk_of r q ≡ job.walk (clauses_of j.set) j.ceiling j.order.entries.now p.state.marks p.count false
+  pub walking : IfOk r (λ f. Walking j q)

@@ -19,8 +19,10 @@ use Rattle.closure.specs.Closure.{UnitClosed}
 use Rattle.closure.specs.Marks.{has, IsMarks}
 use Rattle.closure.proofs.Sets.{least_given}
 use Rattle.groups.specs.Groups.{group_at, index_at, kind_at, number_of, first_pair, pair_number, Pair}
-use Rattle.worklist.specs.Acting.{True, False, Listed, Within, Undecided, Along, Pairs, Adds, PairsReady, Opened, Strikes, Struck, Stepped}
-use Rattle.worklist.specs.declared.acting.Work.{Work}
+use Rattle.worklist.specs.Acting.{True, False, Struckable, Within, Undecided, Along, Pairs, Adds, PairsReady, Opened, Strikes, Struck, Stepped}
+use Rattle.worklist.specs.declared.acting.State.{State}
+use Rattle.worklist.specs.declared.acting.Targets.{Targets}
+use Rattle.worklist.specs.declared.acting.Worklist.{Worklist}
 use Rattle.groups.proofs.Slots.{first_below, number_at, at_number, number_below, index_at_lem, place_at_lem, place_once, group_same}
 use Rattle.worklist.proofs.Rules.{closed_strikes}
 use Rattle.groups.proofs.Pairs.{Paired, pair_clause, clause_pair}
@@ -91,7 +93,7 @@ module _ (s : ClauseSet) (m : List ℕ) (p : ℕ) (marks : IsMarks m) (u : Undec
   raised_here = get_or-set_same m p 1 0 (omega (arith, u.0, marks.long))
 
   -- the pairs that are listed are exactly those that may still add a literal: every other true place has struck its own
-  module _ {o ls : List ℕ} {n : ℕ} (before : Struck s m) (few : n ≤ 36) (r : Opened raised (Pairs (first_pair s) 3 p 9) ls o n) where
+  module _ {ls : List ℕ} {t : Targets} (before : Struck s m) (few : t.count ≤ 36) (r : Opened raised (Pairs (first_pair s) 3 p 9) ls t.places t.count) where
     raised_true : True raised p
     raised_true = true_byte raised p raised_here
 
@@ -113,15 +115,15 @@ module _ (s : ClauseSet) (m : List ℕ) (p : ℕ) (marks : IsMarks m) (u : Undec
         (λ t. absurd (omega (arith, w.2.1, byte_false raised q (kept q (before w.0 x.here t q (paired_within s x) (paired_other s x))))))
         (λ e. paired_pairs s (subst (λ y. Paired s c y q) (same_place w.0 p e) x)) ((has_set m (pos (suc p)) marks u.0 u.1 (pos (suc w.0))).0 w.1)
 
-    pub pairs_ready : PairsReady s raised ls o n
+    pub pairs_ready : PairsReady s raised ls t
     pairs_ready = record { few = few; sound = λ i h. let w = r.sound i h in pair_adds _ _ w.0 w.1; complete = λ c q w. r.complete q c (adds_pair q c w) w.2.1 }
 
-  module _ (before : Struck s m) {o a ls ls' : List ℕ} {n : ℕ} {w : Work} {m' : List ℕ} (r : Opened raised (Pairs (first_pair s) 3 p 9) ls o n) (v : Strikes s (Listed o n) raised m' a ls' w) (small : IsMarks raised) where
+  module _ (before : Struck s m) {ls : List ℕ} {t : Targets} {st : State} {l : Worklist} (r : Opened raised (Pairs (first_pair s) 3 p 9) ls t.places t.count) (v : Strikes s (Struckable t) raised st l) (small : IsMarks raised) where
     -- the others of its groups are false
-    others : (q : ℕ) → Within (first_pair s) 4 p q → (q ≡ p → ⊥) → False m' q
+    others : (q : ℕ) → Within (first_pair s) 4 p q → (q ≡ p → ⊥) → False st.marks q
     others q k d = go (get_or raised q 0) refl
       where
-        go : (b : ℕ) → get_or raised q 0 ≡ b → False m' q
+        go : (b : ℕ) → get_or raised q 0 ≡ b → False st.marks q
         go b e = elim (ℕ_discrete b 0) [
           | yes z ↦ (let c = within_pairs (first_pair s) p q k in let i = r.complete q c.0 c.1 (e ∙ z) in v.struck q (i.0, i.1, i.3))
           | no z ↦ elim (ℕ_discrete b 1) [
@@ -133,7 +135,7 @@ module _ (s : ClauseSet) (m : List ℕ) (p : ℕ) (marks : IsMarks m) (u : Undec
         ]
 
     -- a true place strikes in every closed set
-    strikes : (q : ℕ) → Listed o n q → Least (UnitClosed (clauses_of s)) (λ l. T (has raised l)) (negsuc q)
+    strikes : (q : ℕ) → Struckable t q → Least (UnitClosed (clauses_of s)) (λ l. T (has raised l)) (negsuc q)
     strikes q k S closed g =
         let x = r.sound k.0 k.1 in
         let e = k.2 in
@@ -147,7 +149,7 @@ module _ (s : ClauseSet) (m : List ℕ) (p : ℕ) (marks : IsMarks m) (u : Undec
         (λ j. let y : q ≡ p = w.5 ∙ ap (place_of (group_at f p)) (sym j) ∙ i.1 in omega (arith, raised_here, z, ap (λ t. get_or raised t 0) y))
         (subst (λ y. T (S (pos (suc y)))) (sym i.1) (g _ (true_byte raised p raised_here))))
 
-    pub affirmed : Stepped s raised m' a ls' w
+    pub affirmed : Stepped s raised st l
     affirmed =
         record {
           ready = v.ready;

@@ -3,12 +3,11 @@
 -- Assumes nothing.
 use mathlib.Core.Path.{◌≡◌, refl, ap, sym, subst, ◌∙◌}
 use mathlib.Core.Logic.{◌⊎◌, inl, inr, ⊎_elim}
-use mathlib.Core.Bool.{cond, ◌||◌}
+use mathlib.Core.Bool.{◌||◌}
 use mathlib.Core.List.{List, [], ◌∷◌}
-use Prim.Native.Nat.{ℕ, zero, suc, ◌+◌, ◌*◌, ◌/◌, ◌≤◌, ◌<◌}
+use Prim.Native.Nat.{ℕ, zero, suc, ◌+◌, ◌*◌, ◌-◌, ◌/◌, ◌≤◌, ◌<◌}
 use native.Mathlib.Decide.{ℕ_discrete, dec_lt}
 use native.Mathlib.Omega.{arith}
-use borrow.Author.Tests.{lt-ltb, le-ltb}
 use lib.Dec.{eqb}
 use lib.ListN.{length, get_or, set, length-set}
 use lib.Seq.{get_or-set_same, get_or-set_other}
@@ -18,11 +17,22 @@ use Rattle.clauses.specs.declared.ClauseSet.{ClauseSet}
 use Rattle.closure.specs.Marks.{decided_in, decided, IsMarks}
 use Rattle.closure.proofs.Marks.{decided_bounded}
 use Rattle.groups.specs.Groups.{group_in, clause_in, kind_at, index_at, slot_at, nine_kinds}
-use Rattle.worklist.specs.Sums.{sum_of}
-use Rattle.worklist.specs.Acting.{Listed, At, Undecided, IsSign, Ready, Weighable, Weighed, sum_after}
-use Rattle.worklist.specs.declared.acting.Work.{Work}
+use Rattle.worklist.specs.Sums.{weight, sum_of}
+use Rattle.worklist.specs.Acting.{Listed, At, Undecided, IsSign, Ready}
+use Rattle.worklist.specs.declared.acting.State.{State}
+use Rattle.worklist.specs.declared.acting.Worklist.{Worklist}
 use Rattle.groups.proofs.Slots.{number_at, slot_kind, slot_group, index_at_lem, slot_place, nines_below}
 use Rattle.worklist.proofs.Sums.{sum_marked, sum_kept, sum_least, sum_most}
+
+-- the sum of slot x after place p, which was undecided, got mark b
+abbrev pub sum_after : List ℕ → ℕ → ℕ → ℕ → ℕ
+sum_after a x p b = get_or a x 0 + weight b p - (1024 + p)
+
+-- the sum is changed, and the clause is listed where it may act
+pub record Weighed (a ls : List ℕ) (n x p b : ℕ) (a' ls' : List ℕ) (n' : ℕ) : Type 0 where
+  pub sums : a' ≡ set a x (sum_after a x p b)
+  pub list : ls' ≡ set ls n (clause_in x)
+  pub listed : ((sum_after a x p b < 2048) × (n' ≡ n + 1)) ⊎ ((2048 ≤ sum_after a x p b) × (n' ≡ n))
 
 -- a mark at an undecided place decides one variable more
 decided_in_set : (n : ℕ) (m : List ℕ) (k b : ℕ) → k < n → k < length m → get_or m k 0 ≡ 0 → tick (eqb b 1 || eqb b 2) ≡ 1 → decided_in n (set m k b) ≡ decided_in n m + 1
@@ -75,15 +85,18 @@ module _ (kinds i p b : ℕ) (m a ls : List ℕ) (n : ℕ) (four : kinds ≤ 4) 
   one_more : decided (set m p b) ≡ decided m + 1
   one_more = decided_in_set 729 m p b u.0 in_marks u.1 (sign_ticks b sign)
 
-  pub weighable : Weighable a n slot p
-  weighable =
-      record {
-        slot = omega (arith, within.1);
-        room = omega (arith, w.few, one_more, decided_bounded (set m p b));
-        place = u.0;
-        least = omega (arith, old, sum_least m slot p here.0 (omega (arith, within.1)) in_marks u.1 here.1 here.2);
-        most = omega (arith, old, sum_most m slot (omega (arith, within.1)));
-      }
+  slot_small : slot < 324
+  slot_small = omega (arith, within.1)
+
+  few_listed : n < 2916
+  few_listed = omega (arith, w.few, one_more, decided_bounded (set m p b))
+
+  -- the sum has what the undecided place weighs, and fits
+  pub least : 1024 + p ≤ get_or a slot 0
+  least = omega (arith, old, sum_least m slot p here.0 slot_small in_marks u.1 here.1 here.2)
+
+  pub most : get_or a slot 0 ≤ 24984
+  most = omega (arith, old, sum_most m slot slot_small)
 
   new : sum_after a slot p b ≡ sum_of (set m p b) (group_in slot)
   new = omega (arith, old, sum_marked m slot (omega (arith, within.1)) p b in_marks u.1 here.0 here.1 here.2)
@@ -94,26 +107,19 @@ module _ (kinds i p b : ℕ) (m a ls : List ℕ) (n : ℕ) (four : kinds ≤ 4) 
 
   module _ {a' ls' : List ℕ} {n' : ℕ} (v : Weighed a ls n slot p b a' ls' n') where
     sum_here : get_or a' slot 0 ≡ sum_after a slot p b
-    sum_here = ap (λ y. get_or y slot 0) v.sums ∙ get_or-set_same a slot (sum_after a slot p b) 0 (omega (arith, w.long, weighable.slot))
+    sum_here = ap (λ y. get_or y slot 0) v.sums ∙ get_or-set_same a slot (sum_after a slot p b) 0 (omega (arith, w.long, slot_small))
 
     sum_there : (x : ℕ) → (x ≡ slot → ⊥) → get_or a' x 0 ≡ get_or a x 0
     sum_there x d = ap (λ y. get_or y x 0) v.sums ∙ get_or-set_other a slot x (sum_after a slot p b) 0 d
 
     listed_here : get_or ls' n 0 ≡ clause_in slot
-    listed_here = ap (λ y. get_or y n 0) v.list ∙ get_or-set_same ls n (clause_in slot) 0 (omega (arith, w.room, weighable.room))
+    listed_here = ap (λ y. get_or y n 0) v.list ∙ get_or-set_same ls n (clause_in slot) 0 (omega (arith, w.room, few_listed))
 
     listed_there : (j : ℕ) → j < n → get_or ls' j 0 ≡ get_or ls j 0
     listed_there j h = ap (λ y. get_or y j 0) v.list ∙ get_or-set_other ls n j (clause_in slot) 0 (λ e. omega arith)
 
-    -- the clause stays on the list where its sum is below 2,048
-    stays : ((sum_after a slot p b < 2048) × (n' ≡ n + 1)) ⊎ ((2048 ≤ sum_after a slot p b) × (n' ≡ n))
-    stays = elim (dec_lt (sum_after a slot p b) 2048) [
-      | yes h ↦ inl (h, v.listed ∙ ap (λ t. cond t (n + 1) n) (lt-ltb (sum_after a slot p b) 2048 h))
-      | no h ↦ (let k : 2048 ≤ sum_after a slot p b = omega arith in inr (k, v.listed ∙ ap (λ t. cond t (n + 1) n) (le-ltb (sum_after a slot p b) 2048 k)))
-    ]
-
     more : (n ≤ n') × (n' ≤ n + 1)
-    more = ⊎_elim (λ s. (omega (arith, s.1), omega (arith, s.1))) (λ s. (omega (arith, s.1), omega (arith, s.1))) stays
+    more = ⊎_elim (λ s. (omega (arith, s.1), omega (arith, s.1))) (λ s. (omega (arith, s.1), omega (arith, s.1))) v.listed
 
     done_next : (x : ℕ) → x < 81 * kinds → x < 81 * (i + 1) → get_or a' x 0 ≡ sum_of (set m p b) (group_in x)
     done_next x h l = elim (ℕ_discrete x slot) [
@@ -131,7 +137,7 @@ module _ (kinds i p b : ℕ) (m a ls : List ℕ) (n : ℕ) (four : kinds ≤ 4) 
     acting_next x h l = elim (ℕ_discrete x slot) [
       | yes e ↦ ⊎_elim
           (λ s. inr (n, omega (arith, s.1), listed_here ∙ ap clause_in (sym e)))
-          (λ s. absurd (let q = ap (λ y. get_or a' y 0) e in omega (arith, s.0, sum_here, q, l))) stays
+          (λ s. absurd (let q = ap (λ y. get_or a' y 0) e in omega (arith, s.0, sum_here, q, l))) v.listed
       | no d ↦ ⊎_elim
           (λ k. elim (dec_lt x (81 * (i + 1))) [ yes q ↦ absurd (d (only x k.0 q k.1)) | no q ↦ inl (omega arith, k.1) ])
           (λ k. inr (listed_more (clause_in x) k)) (w.acting x h (let q = sum_there x d in omega arith))
@@ -152,8 +158,11 @@ module _ (kinds i p b : ℕ) (m a ls : List ℕ) (n : ℕ) (four : kinds ≤ 4) 
           acting = acting_next;
         }
 
-module _ (s : ClauseSet) (p b : ℕ) (m a ls : List ℕ) (w : Work) (r : Ready s (At p) m a ls w) (u : Undecided m p) (sign : IsSign b) where
-  pub weighing_none : Weighing (nine_kinds s) 0 p m (set m p b) a ls w.listed
+module _ (s : ClauseSet) (p b : ℕ) (st : State) (l : Worklist) (r : Ready s (At p) st l) (u : Undecided st.marks p) (sign : IsSign b) where
+  abbrev m : List ℕ
+  m = st.marks
+
+  pub weighing_none : Weighing (nine_kinds s) 0 p m (set m p b) st.sums l.numbers l.listed
   weighing_none =
       record {
         long = r.sums.long;
@@ -164,6 +173,13 @@ module _ (s : ClauseSet) (p b : ℕ) (m a ls : List ℕ) (w : Work) (r : Ready s
         numbers = r.numbers;
         acting = λ x h l. ⊎_elim (λ k. inl (omega arith, k)) inr (r.acting x h l);
       }
+
+  one_decided : decided (set m p b) ≡ decided m + 1
+  one_decided = decided_in_set 729 m p b u.0 (omega (arith, u.0, r.marks.long)) u.1 (sign_ticks b sign)
+
+  -- there is room for the clauses of a place more
+  pub room_left : l.listed ≤ 2912
+  room_left = omega (arith, r.room, r.count, one_decided, decided_bounded (set m p b))
 
   is_marks_set : IsMarks (set m p b)
   is_marks_set =
@@ -176,27 +192,14 @@ module _ (s : ClauseSet) (p b : ℕ) (m a ls : List ℕ) (w : Work) (r : Ready s
       }
 
   pub weighing_all : {a' ls' : List ℕ} {n i : ℕ} → nine_kinds s ≤ i → i ≤ nine_kinds s → Weighing (nine_kinds s) i p m (set m p b) a' ls' n
-      → Ready s (λ x. ⊥) (set m p b) a' ls' (record { listed = n; decided = w.decided + 1 })
+      → Ready s (λ x. ⊥) (record { marks = set m p b; sums = a'; decided = st.decided + 1 }) (record { numbers = ls'; listed = n })
   weighing_all c d v =
       record {
         marks = is_marks_set;
         sums = record { long = v.long; sums = λ x h. v.done x h (omega arith) };
-        count = let e = decided_in_set 729 m p b u.0 (omega (arith, u.0, r.marks.long)) u.1 (sign_ticks b sign) in omega (arith, e, r.count);
+        count = omega (arith, one_decided, r.count);
         long = v.room;
         room = omega (arith, v.few, r.count, nines_below s);
         numbers = v.numbers;
         acting = λ x h l. ⊎_elim (λ k. absurd (omega (arith, k.0))) inr (v.acting x h l);
       }
-
--- where every clause that may act is listed, no slot need be left out
-pub ready_but : {s : ClauseSet} {E : ℕ → Type 0} {m a ls : List ℕ} {w : Work} → Ready s (λ x. ⊥) m a ls w → Ready s E m a ls w
-ready_but r =
-    record {
-      marks = r.marks;
-      sums = r.sums;
-      count = r.count;
-      long = r.long;
-      room = r.room;
-      numbers = r.numbers;
-      acting = λ x h l. ⊎_elim absurd inr (r.acting x h l);
-    }

@@ -11,9 +11,12 @@ use lib.Seq.{get_or-set_same, get_or-set_other}
 use Rattle.clauses.specs.Shape.{place_of}
 use Rattle.clauses.specs.declared.ClauseSet.{ClauseSet}
 use Rattle.closure.proofs.Marks.{decided_bounded}
-use Rattle.groups.specs.Groups.{group_at, kind_at, pair_number}
+use Rattle.groups.specs.Groups.{group_at, kind_at, number_of, pair_number}
+use Rattle.groups.specs.declared.Kind.{Kind}
 use Rattle.worklist.specs.Acting.{Pairs, Along, Opened, Beside, Front, RunListed, ListedTo, Ready}
-use Rattle.worklist.specs.declared.acting.Work.{Work}
+use Rattle.worklist.specs.declared.acting.State.{State}
+use Rattle.worklist.specs.declared.acting.Targets.{Targets}
+use Rattle.worklist.specs.declared.acting.Worklist.{Worklist}
 
 -- nothing is written to the front, and a pair is written behind it
 pub front_same : (ls : List ℕ) → Front ls ls
@@ -26,20 +29,20 @@ pub front_set : (ls : List ℕ) (n c : ℕ) → Front ls (set ls (2916 + n) c)
 front_set ls n c = record { long = length-set ls (2916 + n) c; same = λ i h. get_or-set_other ls (2916 + n) i c 0 (λ e. omega arith) }
 
 -- the nine-literal clauses that are listed stay listed
-pub ready_front : {s : ClauseSet} {E : ℕ → Type 0} {m a ls ls' : List ℕ} {w : Work} → Front ls ls' → Ready s E m a ls w → Ready s E m a ls' w
-ready_front {m = m} {ls = ls} {ls' = ls'} {w = w} f r =
+pub ready_front : {s : ClauseSet} {E : ℕ → Type 0} {st : State} {l l' : Worklist} → Front l.numbers l'.numbers → l'.listed ≡ l.listed → Ready s E st l → Ready s E st l'
+ready_front {st = st} {l = l} {l' = l'} f e r =
     record {
       marks = r.marks;
       sums = r.sums;
       count = r.count;
       long = f.long ∙ r.long;
-      room = r.room;
-      numbers = λ i h. let v = r.numbers i h in (v.0, v.1, here i h ∙ v.2);
-      acting = λ x i b. ⊎_elim inl (λ v. inr (v.0, v.1, here v.0 v.1 ∙ v.2)) (r.acting x i b);
+      room = omega (arith, e, r.room);
+      numbers = λ i h. let b : i < l.listed = omega (arith, e) in let v = r.numbers i b in (v.0, v.1, here i b ∙ v.2);
+      acting = λ x i b. ⊎_elim inl (λ v. inr (v.0, omega (arith, e, v.1), here v.0 v.1 ∙ v.2)) (r.acting x i b);
     }
   where
-    here : (i : ℕ) → i < w.listed → get_or ls' i 0 ≡ get_or ls i 0
-    here i h = f.same i (omega (arith, r.room, r.count, h, decided_bounded m))
+    here : (i : ℕ) → i < l.listed → get_or l'.numbers i 0 ≡ get_or l.numbers i 0
+    here i h = f.same i (omega (arith, r.room, r.count, h, decided_bounded st.marks))
 
 -- the same pairs, said otherwise
 opened_same : {m ls o : List ℕ} {n : ℕ} {D E : ℕ → ℕ → Type 0}
@@ -47,11 +50,11 @@ opened_same : {m ls o : List ℕ} {n : ℕ} {D E : ℕ → ℕ → Type 0}
 opened_same f g r = record { long = r.long; sound = λ i h. let w = r.sound i h in (f _ _ w.0, w.1); complete = λ q c e z. r.complete q c (g q c e) z }
 
 -- no pair, and a kind more
-opened_none : (a p : ℕ) (m ls o : List ℕ) → length o ≡ 36 → Opened m (Pairs a a p 0) ls o 0
-opened_none a p m ls o h =
+opened_none : (a p : ℕ) (m ls o : List ℕ) (n : ℕ) → length o ≡ 36 → n ≡ 0 → Opened m (Pairs a a p 0) ls o n
+opened_none a p m ls o n h e =
     record {
       long = h;
-      sound = λ i b. absurd (omega arith);
+      sound = λ i b. absurd (omega (arith, e));
       complete = λ q c w z. ⊎_elim (λ u. absurd (omega (arith, u.1, u.2))) (λ u. absurd (omega (arith, u.1))) w;
     }
 
@@ -68,18 +71,14 @@ opened_kind a i p h r =
     ]
 
 -- no kind, a run more, and a kind more
-pub to_none : (m : List ℕ) (a p : ℕ) (ls o : List ℕ) → length o ≡ 36 → ListedTo m a a p 0 ls ls o 0
-to_none m a p ls o h = record { front = front_same ls; few = omega arith; opened = opened_none a p m ls o h }
+pub to_none : (m : List ℕ) (a p : ℕ) (ls : List ℕ) (t : Targets) → length t.places ≡ 36 → t.count ≡ 0 → ListedTo m a a p 0 ls ls t
+to_none m a p ls t h e = record { front = front_same ls; few = omega (arith, e); opened = opened_none a p m ls t.places t.count h e }
 
-pub to_run : {m : List ℕ} {a i p from to : ℕ} {ls ls' o' : List ℕ} {n' : ℕ} {ls'' o'' : List ℕ} {n'' : ℕ}
-    → a ≤ i → ListedTo m a i p from ls ls' o' n' → RunListed m i p from to ls' o' n' ls'' o'' n'' → ListedTo m a i p to ls ls'' o'' n''
-to_run {a = a} h t r = record { front = front_more t.front r.front; few = r.few; opened = r.more a h t.opened }
+pub to_run : {m : List ℕ} {a p from to : ℕ} {ls ls' ls'' : List ℕ} {t t' : Targets} (f : Kind)
+    → a ≤ number_of f → ListedTo m a (number_of f) p from ls ls' t → RunListed m f p from to ls' t ls'' t' → ListedTo m a (number_of f) p to ls ls'' t'
+to_run {a = a} f h t r = record { front = front_more t.front r.front; few = r.few; opened = r.more a h t.opened }
 
--- what is listed, by other names
-pub to_named : {m : List ℕ} {a b i p to : ℕ} {ls x x' y y' : List ℕ} {z z' : ℕ} → b ≡ a → x' ≡ x → y' ≡ y → z' ≡ z → ListedTo m a i p to ls x y z → ListedTo m b i p to ls x' y' z'
-to_named d e f g t = rw (d, e, f, g) t
-
-pub to_kind : {m : List ℕ} {a i p : ℕ} {ls ls' o' : List ℕ} {n' : ℕ} → a ≤ i → ListedTo m a i p 9 ls ls' o' n' → ListedTo m a (i + 1) p 0 ls ls' o' n'
+pub to_kind : {m : List ℕ} {a i p : ℕ} {ls ls' : List ℕ} {t : Targets} → a ≤ i → ListedTo m a i p 9 ls ls' t → ListedTo m a (i + 1) p 0 ls ls' t
 to_kind {a = a} {i = i} {p = p} h t = record { front = t.front; few = omega (arith, t.few); opened = opened_kind a i p h t.opened }
 
 -- one place more, which is listed where it is undecided

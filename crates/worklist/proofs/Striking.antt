@@ -1,16 +1,20 @@
 -- Places that are struck, one after the other.
 -- Assumes nothing.
 use mathlib.Core.Path.{◌≡◌, refl, ap, sym, subst, ◌∙◌}
-use mathlib.Core.Logic.{◌⊎◌, inl, inr, ⊎_elim}
+use mathlib.Core.Logic.{◌⊎◌, inl, inr, ⊎_elim, ◌↔◌}
 use mathlib.Core.List.{List}
 use Prim.Native.Nat.{ℕ, suc, ◌-◌, ◌≤◌, ◌<◌}
 use native.Mathlib.Decide.{dec_lt}
 use native.Mathlib.Omega.{arith}
-use lib.IntN.{pos, negsuc}
+use lib.Dec.{T}
+use lib.IntN.{ℤ, pos, negsuc}
 use lib.ListN.{get_or, set}
 use Rattle.clauses.specs.declared.ClauseSet.{ClauseSet}
+use Rattle.closure.specs.Closure.{With}
+use Rattle.closure.specs.Marks.{has}
 use Rattle.worklist.specs.Acting.{True, False, Ready, Strikes}
-use Rattle.worklist.specs.declared.acting.Work.{Work}
+use Rattle.worklist.specs.declared.acting.State.{State}
+use Rattle.worklist.specs.declared.acting.Worklist.{Worklist}
 use Rattle.worklist.proofs.Literals.{has_set}
 use Rattle.worklist.proofs.Sums.{true_byte, false_byte}
 
@@ -20,22 +24,22 @@ signs_differ a b e = let z : ◌≡◌ {A = ℕ} 0 1 = cc in omega arith
 
 module _ (s : ClauseSet) where
   -- no place
-  pub strikes_none : {O : ℕ → Type 0} {m a ls : List ℕ} {w : Work} → ((q : ℕ) → O q → ⊥) → Ready s (λ x. ⊥) m a ls w → Strikes s O m m a ls w
+  pub strikes_none : {O : ℕ → Type 0} {st : State} {l : Worklist} → ((q : ℕ) → O q → ⊥) → Ready s (λ x. ⊥) st l → Strikes s O st.marks st l
   strikes_none n r = record { ready = r; keeps = λ l t. t; struck = λ q o. absurd (n q o); only = λ l t. inl t }
 
-  module _ (q : ℕ) {m a ls : List ℕ} {w : Work} (h : q < 729) where
+  module _ (q : ℕ) {st : State} {l : Worklist} (h : q < 729) where
     -- a place that is false
-    pub strikes_already : Ready s (λ x. ⊥) m a ls w → (True m q → ⊥) → (get_or m q 0 ≡ 0 → ⊥) → Strikes s (λ x. x ≡ q) m m a ls w
+    pub strikes_already : Ready s (λ x. ⊥) st l → (True st.marks q → ⊥) → (get_or st.marks q 0 ≡ 0 → ⊥) → Strikes s (λ x. x ≡ q) st.marks st l
     strikes_already r n z =
-        let e : get_or m q 0 ≡ 1 → ⊥ = λ e. n (true_byte m q e) in
-        let f : False m q = false_byte m q (omega (arith, r.marks.small q, e, z)) in
-        record { ready = r; keeps = λ l t. t; struck = λ x o. subst (False m) (sym o) f; only = λ l t. inl t }
+        let e : get_or st.marks q 0 ≡ 1 → ⊥ = λ e. n (true_byte st.marks q e) in
+        let f : False st.marks q = false_byte st.marks q (omega (arith, r.marks.small q, e, z)) in
+        record { ready = r; keeps = λ l t. t; struck = λ x o. subst (False st.marks) (sym o) f; only = λ l t. inl t }
 
     -- a place that is undecided
-    pub strikes_new : {a' ls' : List ℕ} {w' : Work} → Ready s (λ x. ⊥) m a ls w → get_or m q 0 ≡ 0 → Ready s (λ x. ⊥) (set m q 2) a' ls' w'
-        → Strikes s (λ x. x ≡ q) m (set m q 2) a' ls' w'
-    strikes_new r z r' =
-        let e = has_set m (negsuc q) r.marks h z in
+    pub strikes_new : {st' : State} {l' : Worklist} → Ready s (λ x. ⊥) st l → get_or st.marks q 0 ≡ 0 → st'.marks ≡ set st.marks q 2 → Ready s (λ x. ⊥) st' l'
+        → Strikes s (λ x. x ≡ q) st.marks st' l'
+    strikes_new r z d r' =
+        let e = subst (λ m. (k : ℤ) → T (has m k) ↔ With (has st.marks) (negsuc q) k) (sym d) (has_set st.marks (negsuc q) r.marks h z) in
         record {
           ready = r';
           keeps = λ l t. (e l).1 (inl t);
@@ -44,7 +48,7 @@ module _ (s : ClauseSet) where
         }
 
   -- the same places, said otherwise
-  pub strikes_same : {O P : ℕ → Type 0} {m m' a' ls' : List ℕ} {w' : Work} → ((x : ℕ) → O x → P x) → ((x : ℕ) → P x → O x) → Strikes s O m m' a' ls' w' → Strikes s P m m' a' ls' w'
+  pub strikes_same : {O P : ℕ → Type 0} {m : List ℕ} {st : State} {l : Worklist} → ((x : ℕ) → O x → P x) → ((x : ℕ) → P x → O x) → Strikes s O m st l → Strikes s P m st l
   strikes_same f g v =
       record {
         ready = v.ready;
@@ -54,9 +58,9 @@ module _ (s : ClauseSet) where
       }
 
   -- one place more
-  pub strikes_more : {O P : ℕ → Type 0} {q : ℕ} {m m' a' ls' m'' a'' ls'' : List ℕ} {w' w'' : Work}
+  pub strikes_more : {O P : ℕ → Type 0} {q : ℕ} {m : List ℕ} {st st' : State} {l l' : Worklist}
       → ((x : ℕ) → P x → O x ⊎ (x ≡ q)) → ((x : ℕ) → O x → P x) → P q
-      → Strikes s O m m' a' ls' w' → Strikes s (λ x. x ≡ q) m' m'' a'' ls'' w'' → Strikes s P m m'' a'' ls'' w''
+      → Strikes s O m st l → Strikes s (λ x. x ≡ q) st.marks st' l' → Strikes s P m st' l'
   strikes_more {P = P} d f g v w =
       record {
         ready = w.ready;
@@ -68,7 +72,7 @@ module _ (s : ClauseSet) where
       }
 
   -- a place that is not true is not true after others are struck
-  pub strikes_open : {O : ℕ → Type 0} {m m' a' ls' : List ℕ} {w' : Work} (q : ℕ) → Strikes s O m m' a' ls' w' → (True m q → ⊥) → True m' q → ⊥
+  pub strikes_open : {O : ℕ → Type 0} {m : List ℕ} {st : State} {l : Worklist} (q : ℕ) → Strikes s O m st l → (True m q → ⊥) → True st.marks q → ⊥
   strikes_open q v n t = ⊎_elim n (λ k. absurd (signs_differ q k.0 k.2)) (v.only (pos (suc q)) t)
 
 -- place q stands in the array, from place i on and before n

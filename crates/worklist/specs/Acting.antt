@@ -1,5 +1,5 @@
 -- The list of clauses that may act: what holds of marks, sums and list between two looks at a clause.
-use Rattle.std.specs.Prelude.{◌≡◌, cond, ◌⊎◌, List, ℕ, suc, ◌+◌, ◌*◌, ◌-◌, ◌≤◌, ◌<◌, T, ltb, ℤ, pos, negsuc, length, get_or, set}
+use Rattle.std.specs.Prelude.{◌≡◌, ◌⊎◌, List, ℕ, suc, ◌+◌, ◌*◌, ◌≤◌, ◌<◌, T, ℤ, pos, negsuc, length, get_or, Some, None, Option}
 use Rattle.clauses.specs.Clauses.{clauses_of}
 use Rattle.clauses.specs.Shape.{place_of}
 use Rattle.clauses.specs.declared.ClauseSet.{ClauseSet}
@@ -7,9 +7,12 @@ use Rattle.clauses.specs.declared.Group.{Group}
 use Rattle.closure.specs.Sets.{Within as LiteralsWithin, Least}
 use Rattle.closure.specs.Closure.{Contradiction, UnitClosed}
 use Rattle.closure.specs.Marks.{has, decided, IsMarks}
-use Rattle.groups.specs.Groups.{group_at, group_in, clause_in, kind_at, first_pair, pair_number, Pair}
-use Rattle.worklist.specs.Sums.{weight, InSlots, SumsOk}
-use Rattle.worklist.specs.declared.acting.Work.{Work}
+use Rattle.groups.specs.declared.Kind.{Kind}
+use Rattle.groups.specs.Groups.{group_at, group_in, clause_in, kind_at, number_of, first_pair, pair_number, Pair}
+use Rattle.worklist.specs.Sums.{InSlots, SumsOk}
+use Rattle.worklist.specs.declared.acting.State.{State}
+use Rattle.worklist.specs.declared.acting.Targets.{Targets}
+use Rattle.worklist.specs.declared.acting.Worklist.{Worklist}
 
 -- a place is true
 abbrev pub True : List ℕ → ℕ → Type 0
@@ -35,35 +38,22 @@ Undecided m p = (p < 729) × (get_or m p 0 ≡ 0)
 abbrev pub IsSign : ℕ → Type 0
 IsSign b = (1 ≤ b) × (b ≤ 2)
 
--- Marks with their sums, and a list of clause numbers. From its front on it has every nine-literal clause whose sum is below 2,048, those that
--- may still add a literal or are a contradiction, but for the slots E. A place lists at most the four clauses that it is in, when it is decided,
--- so that 2,916 is room for all; behind them come the pairs.
-pub record Ready (s : ClauseSet) (E : ℕ → Type 0) (m a ls : List ℕ) (w : Work) : Type 0 where
-  pub marks : IsMarks m
-  pub sums : SumsOk s m a
-  pub count : w.decided ≡ decided m
-  pub long : length ls ≡ 2952
-  pub room : w.listed ≤ 4 * w.decided
-  pub numbers : (i : ℕ) → i < w.listed → (x : ℕ) × InSlots s x × (get_or ls i 0 ≡ clause_in x)
-  pub acting : (x : ℕ) → InSlots s x → get_or a x 0 < 2048 → E x ⊎ Listed ls w.listed (clause_in x)
+-- A state with its sums and its count, and a list of clause numbers. From its front on the list has every nine-literal clause whose sum is below
+-- 2,048, those that may still add a literal or are a contradiction, but for the slots E. A place lists at most the four clauses that it is in, when
+-- it is decided, so that 2,916 is room for all; behind them come the pairs.
+pub record Ready (s : ClauseSet) (E : ℕ → Type 0) (st : State) (l : Worklist) : Type 0 where
+  pub marks : IsMarks st.marks
+  pub sums : SumsOk s st.marks st.sums
+  pub count : st.decided ≡ decided st.marks
+  pub long : length l.numbers ≡ 2952
+  pub room : l.listed ≤ 4 * st.decided
+  pub numbers : (i : ℕ) → i < l.listed → (x : ℕ) × InSlots s x × (get_or l.numbers i 0 ≡ clause_in x)
+  pub acting : (x : ℕ) → InSlots s x → get_or st.sums x 0 < 2048 → E x ⊎ Listed l.numbers l.listed (clause_in x)
 
--- what a look at one sum needs: there is room on the list, and the sum has an undecided place p
-pub record Weighable (a : List ℕ) (n x p : ℕ) : Type 0 where
-  pub slot : x < 324
-  pub room : n < 2916
-  pub place : p < 729
-  pub least : 1024 + p ≤ get_or a x 0
-  pub most : get_or a x 0 ≤ 24984
-
--- the sum of slot x after place p, which was undecided, got mark b
-abbrev pub sum_after : List ℕ → ℕ → ℕ → ℕ → ℕ
-sum_after a x p b = get_or a x 0 + weight b p - (1024 + p)
-
--- the sum is changed, and the clause listed where it may act
-pub record Weighed (a ls : List ℕ) (n x p b : ℕ) (a' ls' : List ℕ) (n' : ℕ) : Type 0 where
-  pub sums : a' ≡ set a x (sum_after a x p b)
-  pub list : ls' ≡ set ls n (clause_in x)
-  pub listed : n' ≡ cond (ltb (sum_after a x p b) 2048) (n + 1) n
+-- the clause that was listed last is taken off, if one was listed
+abbrev pub Popped : Worklist → Worklist → Option ℕ → Type 0
+Popped l l' None = (l.listed ≡ 0) × (l' ≡ l)
+Popped l l' (Some c) = (l.listed ≡ l'.listed + 1) × (l'.numbers ≡ l.numbers) × (c ≡ get_or l.numbers l'.listed 0)
 
 -- place q is one of the groups at p of the kinds from a on and before i
 abbrev pub Within : ℕ → ℕ → ℕ → ℕ → Type 0
@@ -78,10 +68,14 @@ abbrev pub Beside : List ℕ → List ℕ → ℕ → ℕ → ℕ → Type 0
 Beside ls o n c q = (i : ℕ) × (i < n) × (get_or ls (2916 + i) 0 ≡ c) × (get_or o i 0 ≡ q)
 
 -- The pairs of the list, each with the place that it would strike beside it: exactly the two-literal clauses that may still add a literal.
-pub record PairsReady (s : ClauseSet) (m ls o : List ℕ) (n : ℕ) : Type 0 where
-  pub few : n ≤ 36
-  pub sound : (i : ℕ) → i < n → Adds s m (get_or ls (2916 + i) 0) (get_or o i 0)
-  pub complete : (c q : ℕ) → Adds s m c q → Beside ls o n c q
+pub record PairsReady (s : ClauseSet) (m ls : List ℕ) (t : Targets) : Type 0 where
+  pub few : t.count ≤ 36
+  pub sound : (i : ℕ) → i < t.count → Adds s m (get_or ls (2916 + i) 0) (get_or t.places i 0)
+  pub complete : (c q : ℕ) → Adds s m c q → Beside ls t.places t.count c q
+
+-- place q is one of those that the pairs would strike
+abbrev pub Struckable : Targets → ℕ → Type 0
+Struckable t q = Listed t.places t.count q
 
 -- the nine-literal clauses of the list are left as they are
 pub record Front (ls ls' : List ℕ) : Type 0 where
@@ -102,28 +96,28 @@ Along j p to q c = (k : ℕ) × (k < to) × (q ≡ place_of (group_at (kind_at j
 abbrev pub Pairs : ℕ → ℕ → ℕ → ℕ → ℕ → ℕ → Type 0
 Pairs a i p to q c = ((j : ℕ) × (a ≤ j) × (j < i) × Along j p 9 q c) ⊎ Along i p to q c
 
--- a run more is listed
-pub record RunListed (m : List ℕ) (i p from to : ℕ) (ls o : List ℕ) (n : ℕ) (ls' o' : List ℕ) (n' : ℕ) : Type 0 where
+-- a run more of the kind is listed
+pub record RunListed (m : List ℕ) (f : Kind) (p from to : ℕ) (ls : List ℕ) (t : Targets) (ls' : List ℕ) (t' : Targets) : Type 0 where
   pub front : Front ls ls'
-  pub few : n' ≤ 9 * i + to
-  pub more : (a : ℕ) → a ≤ i → Opened m (Pairs a i p from) ls o n → Opened m (Pairs a i p to) ls' o' n'
+  pub few : t'.count ≤ 9 * number_of f + to
+  pub more : (a : ℕ) → a ≤ number_of f → Opened m (Pairs a (number_of f) p from) ls t.places t.count → Opened m (Pairs a (number_of f) p to) ls' t'.places t'.count
 
 -- the pairs of p are listed, of the kinds from a on, as far as the first places of the i-th
-pub record ListedTo (m : List ℕ) (a i p to : ℕ) (ls ls' o' : List ℕ) (n' : ℕ) : Type 0 where
+pub record ListedTo (m : List ℕ) (a i p to : ℕ) (ls ls' : List ℕ) (t : Targets) : Type 0 where
   pub front : Front ls ls'
-  pub few : n' ≤ 9 * i + to
-  pub opened : Opened m (Pairs a i p to) ls' o' n'
+  pub few : t.count ≤ 9 * i + to
+  pub opened : Opened m (Pairs a i p to) ls' t.places t.count
 
 -- what is marked stays marked
 abbrev pub Keeps : List ℕ → List ℕ → Type 0
 Keeps m m' = (l : ℤ) → T (has m l) → T (has m' l)
 
--- The places O are struck: they are false, and nothing but that is new.
-pub record Strikes (s : ClauseSet) (O : ℕ → Type 0) (m m' a' ls' : List ℕ) (w' : Work) : Type 0 where
-  pub ready : Ready s (λ x. ⊥) m' a' ls' w'
-  pub keeps : Keeps m m'
-  pub struck : (q : ℕ) → O q → False m' q
-  pub only : (l : ℤ) → T (has m' l) → T (has m l) ⊎ ((q : ℕ) × O q × (l ≡ negsuc q))
+-- From marks m on the places O are struck: they are false, and nothing but that is new.
+pub record Strikes (s : ClauseSet) (O : ℕ → Type 0) (m : List ℕ) (st : State) (ls : Worklist) : Type 0 where
+  pub ready : Ready s (λ x. ⊥) st ls
+  pub keeps : Keeps m st.marks
+  pub struck : (q : ℕ) → O q → False st.marks q
+  pub only : (l : ℤ) → T (has st.marks l) → T (has m l) ⊎ ((q : ℕ) × O q × (l ≡ negsuc q))
 
 -- every true place has struck the others of its groups: no two-literal clause may still add a literal
 abbrev pub Struck : ClauseSet → List ℕ → Type 0
@@ -142,8 +136,8 @@ abbrev pub Clashes : ClauseSet → List ℕ → Type 0
 Clashes s m = Contradiction (Least (UnitClosed (clauses_of s)) (λ l. T (has m l)))
 
 -- Steps from marks m: what was marked stays, what is marked anew is of the unit closure of m, and the list is as it must be.
-pub record Stepped (s : ClauseSet) (m m' a' ls' : List ℕ) (w' : Work) : Type 0 where
-  pub ready : Ready s (λ x. ⊥) m' a' ls' w'
-  pub struck : Struck s m'
-  pub keeps : Keeps m m'
-  pub follows : Follows s m m'
+pub record Stepped (s : ClauseSet) (m : List ℕ) (st : State) (ls : Worklist) : Type 0 where
+  pub ready : Ready s (λ x. ⊥) st ls
+  pub struck : Struck s st.marks
+  pub keeps : Keeps m st.marks
+  pub follows : Follows s m st.marks

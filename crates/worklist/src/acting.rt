@@ -1,22 +1,107 @@
 // Marks with a sum for each nine-literal clause, and a list of the clauses that may act: nine-literal clauses from its front, and from 2,916 on
 // two-literal ones, pairs, with the place that each would strike beside it. A place that is decided changes the sums of the clauses that it is
 // in, and those that come to act are listed. A place that becomes true lists its pairs, and these act at once, so that between two steps none is left.
-ghost use Rattle.std.specs.Prelude.{◌≡◌, ℕ, ◌+◌, ◌*◌, ◌≤◌, ◌<◌, get_or, length, set as update};
-ghost use Rattle.groups.specs.Groups.{clause_in, first_pair, pair_table, IsRun};
+ghost use Rattle.std.specs.Prelude.{◌≡◌, ℕ, ◌+◌, ◌*◌, ◌≤◌, ◌<◌, length, set as update};
+ghost use Rattle.groups.specs.Groups.{number_of, first_pair, IsRun};
 ghost use Rattle.worklist.specs.Sums.{weight as weight_of};
-ghost use Rattle.worklist.specs.Acting.{Weighable, Weighed, Ready, At, Struck, Undecided, IsSign, RunListed, ListedTo, PairsReady, True, Listed, Strikes, Stepped};
+ghost use Rattle.worklist.specs.Acting.{Ready, At, Popped, Struck, Undecided, IsSign, RunListed, ListedTo, PairsReady, True, Struckable, Strikes, Stepped};
 
 use clauses::ClauseSet;
-use groups::{
-    byte, clause_at, first_number, kind_at, line_of, nine_kinds, pair_table, place_in, row_at,
-    slot_at, wide,
-};
+use groups::{Kind, nine_kinds, pair_table};
 
-// How many clauses are listed, and how many variables are decided.
+// The list of clauses that may act, and how many nine-literal ones are on it. It is lent for the closures' work alone: what it held before means
+// nothing to them. Its memory is fixed, since the library has no heap.
 #[derive(Drop)]
-pub struct Work {
-    pub listed: usize,
-    pub decided: usize,
+pub struct Worklist {
+    numbers: [u16; 2952],
+    listed: usize,
+}
+
+impl Worklist {
+    // With nothing on it.
+    pub fn new() -> Worklist
+        ensures { result.listed ≡ 0 }
+    {
+        Worklist {
+            numbers: [0; 2952],
+            listed: 0,
+        }
+    }
+
+    // Takes everything off the list.
+    pub fn clear(&mut self)
+        ensures { (self.new.listed ≡ 0) × (length self.new.numbers ≡ 2952) }
+    {
+        self.listed = 0;
+    }
+
+    // The clause that was listed last, which is taken off.
+    pub fn pop(&mut self) -> Option<u16>
+        requires { self.old.listed ≤ length self.old.numbers }
+        ensures { Popped self.old self.new result }
+    {
+        if self.listed == 0 {
+            None
+        } else {
+            self.listed -= 1;
+            Some(self.numbers[self.listed])
+        }
+    }
+}
+
+// The places that the pairs of the list would strike, each beside its pair.
+#[derive(Drop)]
+struct Targets {
+    places: [u16; 36],
+    count: usize,
+}
+
+impl Targets {
+    // The pairs of p with places of its group of that kind, from one place on and before another: they are written behind those that are listed,
+    // and stay where they may act.
+    #[tactic(auto, using(groups::proofs::Pairs::row_most, groups::proofs::Pairs::number_small, groups::proofs::Slots::place_small))]
+    fn list_run(
+        &mut self,
+        numbers: &mut [u16; 2952],
+        marks: &[u8; 729],
+        kind: Kind,
+        p: usize,
+        from: usize,
+        to: usize,
+    )
+        requires { IsRun (number_of kind) from to × (p < 729) × (self.old.count ≤ 9 * number_of kind + from) }
+        ensures { RunListed marks.now kind p from to numbers.old self.old numbers.new self.new }
+    {
+        let line = kind.line_of(p);
+        let row = kind.row_at(p);
+        let first = kind.first_number(p, from / 3);
+        let table = pair_table();
+        let mut n = self.count;
+        for k in from..to {
+            let q = line.place(k);
+            let number = first + usize::from(table[row + k]);
+            numbers[2916 + n] = number as u16;
+            self.places[n] = q as u16;
+            n = if marks[q] == 0 { n + 1 } else { n };
+        }
+        self.count = n;
+    }
+
+    // All pairs of p that may act, where none is listed yet.
+    fn list_pairs(&mut self, numbers: &mut [u16; 2952], marks: &[u8; 729], set: ClauseSet, p: usize)
+        requires { (self.old.count ≡ 0) × (p < 729) }
+        ensures { ListedTo marks.now (first_pair set) 3 p 9 numbers.old numbers.new self.new }
+    {
+        match set {
+            ClauseSet::Minimal => {}
+            ClauseSet::Extended => self.list_run(numbers, marks, Kind::Cell, p, 0, 9),
+        }
+        self.list_run(numbers, marks, Kind::Column, p, 0, 9);
+        self.list_run(numbers, marks, Kind::Row, p, 0, 9);
+        self.list_run(numbers, marks, Kind::Box, p, 0, 3);
+        self.list_run(numbers, marks, Kind::Box, p, 3, 6);
+        self.list_run(numbers, marks, Kind::Box, p, 6, 9);
+    }
 }
 
 // What a place weighs by its mark.
@@ -24,183 +109,76 @@ fn weight(mark: u8, p: usize) -> usize
     requires { p < 729 }
     ensures { result ≡ weight_of mark p }
 {
-    if mark == 0 {
-        1024 + p
-    } else if mark == 1 {
-        2048 + p
-    } else {
-        0
+    match mark {
+        0 => 1024 + p,
+        1 => 2048 + p,
+        _ => 0,
     }
 }
 
-// The sum of one clause, where a place of it that was undecided gets a mark. The clause is written to the list, and stays where it may act.
-fn weigh(
-    sums: &mut [u16; 324],
-    list: &mut [u16; 2952],
-    listed: usize,
-    slot: usize,
-    clause: u16,
-    p: usize,
-    mark: u8,
-) -> usize
-    requires { Weighable sums.old listed slot p × (clause ≡ clause_in slot) }
-    ensures { Weighed sums.old list.old listed slot p mark sums.new list.new result }
-{
-    let sum = wide(sums[slot]) + weight(mark, p) - (1024 + p);
-    sums[slot] = sum as u16;
-    list[listed] = clause;
-    if sum < 2048 { listed + 1 } else { listed }
+// A mark for each variable, 0 undecided, 1 true, 2 false, the sum of each nine-literal clause, and how many variables are decided. Marks are bytes,
+// as hosts lend them. A contradiction leaves a state half closed, so that `Closed` is asked of it where it is needed, and is no invariant.
+#[derive(Clone, Copy)]
+pub struct State {
+    pub marks: [u8; 729],
+    pub sums: [u16; 324],
+    pub decided: usize,
 }
 
-// An undecided place gets a mark.
-pub fn assign(
-    marks: &mut [u8; 729],
-    sums: &mut [u16; 324],
-    list: &mut [u16; 2952],
-    work: Work,
-    set: ClauseSet,
-    p: usize,
-    mark: u8,
-) -> Work
-    requires { Ready set (At p) marks.old sums.old list.old work × Undecided marks.old p × IsSign mark }
-    ensures { (marks.new ≡ update marks.old p mark) × (result.decided ≡ work.decided + 1)
-        × Ready set (λ x. ⊥) marks.new sums.new list.new result }
-{
-    let kinds = nine_kinds(set);
-    let mut n = work.listed;
-    let mut i = 0;
-    while i < kinds {
-        n = weigh(
-            sums,
-            list,
-            n,
-            slot_at(kind_at(i), p),
-            clause_at(kind_at(i), p),
-            p,
-            mark,
-        );
-        i += 1;
+impl State {
+    // An undecided place gets a mark. Each clause that it is in is written to the list, and stays where it may act.
+    #[tactic(auto, using(groups::proofs::Slots::slot_below))]
+    #[inline]
+    pub fn assign(&mut self, list: &mut Worklist, set: ClauseSet, p: usize, mark: u8)
+        requires { Ready set (At p) self.old list.old × Undecided self.old.marks p × IsSign mark }
+        ensures { (self.new.marks ≡ update self.old.marks p mark) × (self.new.decided ≡ self.old.decided + 1)
+            × Ready set (λ x. ⊥) self.new list.new }
+    {
+        let mut n = list.listed;
+        for i in 0..nine_kinds(set) {
+            let kind = Kind::at(i);
+            let slot = kind.slot_at(p);
+            let sum = usize::from(self.sums[slot]) + weight(mark, p) - (1024 + p);
+            self.sums[slot] = sum as u16;
+            list.numbers[n] = kind.clause_at(p);
+            n = if sum < 2048 { n + 1 } else { n };
+        }
+        list.listed = n;
+        self.marks[p] = mark;
+        self.decided += 1;
     }
-    marks[p] = mark;
-    Work {
-        listed: n,
-        decided: work.decided + 1,
+
+    // A place becomes false, if it is not.
+    fn strike(&mut self, list: &mut Worklist, set: ClauseSet, q: usize)
+        requires { Ready set (λ x. ⊥) self.old list.old × (q < 729) × (True self.old.marks q → ⊥) }
+        ensures { Strikes set (λ x. x ≡ q) self.old.marks self.new list.new }
+    {
+        if self.marks[q] == 0 {
+            self.assign(list, set, q, 2);
+        }
     }
-}
 
-// The pairs of p with places of its group of the i-th kind, from one place on and before another: they are written behind those that are listed,
-// and stay where they may act.
-fn list_run(
-    marks: &[u8; 729],
-    list: &mut [u16; 2952],
-    beside: &mut [u16; 36],
-    table: &[u8; 162],
-    count: usize,
-    i: usize,
-    p: usize,
-    from: usize,
-    to: usize,
-) -> usize
-    requires { IsRun i from to × (p < 729) × (count ≤ 9 * i + from) × (length list.old ≡ 2952) × (table.now ≡ pair_table) }
-    ensures { RunListed marks.now i p from to list.old beside.old count list.new beside.new result }
-{
-    let line = line_of(kind_at(i), p);
-    let row = row_at(kind_at(i), p);
-    let first = first_number(kind_at(i), p, from / 3);
-    let mut n = count;
-    let mut k = from;
-    while k < to {
-        let q = place_in(line, k);
-        let at = row + k;
-        let number = first + byte(table[at]);
-        list[2916 + n] = number as u16;
-        beside[n] = q as u16;
-        n = if marks[q] == 0 { n + 1 } else { n };
-        k += 1;
+    // All pairs that are listed act, the last one first: the place beside each becomes false.
+    fn strike_all(&mut self, list: &mut Worklist, set: ClauseSet, targets: &Targets)
+        requires { Ready set (λ x. ⊥) self.old list.old × PairsReady set self.old.marks list.old.numbers targets.now }
+        ensures { Strikes set (Struckable targets.now) self.old.marks self.new list.new }
+    {
+        for i in (0..targets.count).rev() {
+            self.strike(list, set, usize::from(targets.places[i]));
+        }
     }
-    n
-}
 
-// All pairs of p that may act.
-fn list_pairs(
-    marks: &[u8; 729],
-    list: &mut [u16; 2952],
-    beside: &mut [u16; 36],
-    table: &[u8; 162],
-    set: ClauseSet,
-    p: usize,
-) -> usize
-    requires { (p < 729) × (length list.old ≡ 2952) × (length beside.old ≡ 36) × (table.now ≡ pair_table) }
-    ensures { ListedTo marks.now (first_pair set) 3 p 9 list.old list.new beside.new result }
-{
-    let cell = match set {
-        ClauseSet::Minimal => 0,
-        ClauseSet::Extended => list_run(marks, list, beside, table, 0, 0, p, 0, 9),
-    };
-    let column = list_run(marks, list, beside, table, cell, 1, p, 0, 9);
-    let row = list_run(marks, list, beside, table, column, 2, p, 0, 9);
-    let upper = list_run(marks, list, beside, table, row, 3, p, 0, 3);
-    let middle = list_run(marks, list, beside, table, upper, 3, p, 3, 6);
-    list_run(marks, list, beside, table, middle, 3, p, 6, 9)
-}
-
-// A place becomes false, if it is not.
-fn strike(
-    marks: &mut [u8; 729],
-    sums: &mut [u16; 324],
-    list: &mut [u16; 2952],
-    work: Work,
-    set: ClauseSet,
-    q: usize,
-) -> Work
-    requires { Ready set (λ x. ⊥) marks.old sums.old list.old work × (q < 729) × (True marks.old q → ⊥) }
-    ensures { Strikes set (λ x. x ≡ q) marks.old marks.new sums.new list.new result }
-{
-    if marks[q] == 0 {
-        assign(marks, sums, list, work, set, q, 2)
-    } else {
-        work
+    // An undecided place becomes true, and its pairs strike the others of its groups.
+    pub fn affirm(&mut self, list: &mut Worklist, set: ClauseSet, p: usize)
+        requires { Ready set (At p) self.old list.old × Struck set self.old.marks × Undecided self.old.marks p }
+        ensures { Stepped set (update self.old.marks p 1) self.new list.new × (self.old.decided < self.new.decided) }
+    {
+        self.assign(list, set, p, 1);
+        let mut targets = Targets {
+            places: [0; 36],
+            count: 0,
+        };
+        targets.list_pairs(&mut list.numbers, &self.marks, set, p);
+        self.strike_all(list, set, &targets);
     }
-}
-
-// All pairs that are listed act: the place beside each becomes false. The last one goes first: a count that only falls costs less.
-fn strike_all(
-    marks: &mut [u8; 729],
-    sums: &mut [u16; 324],
-    list: &mut [u16; 2952],
-    work: Work,
-    set: ClauseSet,
-    beside: &[u16; 36],
-    count: usize,
-) -> Work
-    requires { Ready set (λ x. ⊥) marks.old sums.old list.old work × PairsReady set marks.old list.old beside.now count }
-    ensures { Strikes set (Listed beside.now count) marks.old marks.new sums.new list.new result }
-{
-    let mut w = work;
-    let mut left = count;
-    while left != 0 {
-        left -= 1;
-        w = strike(marks, sums, list, w, set, wide(beside[left]));
-    }
-    w
-}
-
-// An undecided place becomes true, and its pairs strike the others of its groups.
-pub fn affirm(
-    marks: &mut [u8; 729],
-    sums: &mut [u16; 324],
-    list: &mut [u16; 2952],
-    work: Work,
-    set: ClauseSet,
-    p: usize,
-) -> Work
-    requires { Ready set (At p) marks.old sums.old list.old work × Struck set marks.old × Undecided marks.old p }
-    ensures { Stepped set (update marks.old p 1) marks.new sums.new list.new result
-        × (work.decided < result.decided) }
-{
-    let raised = assign(marks, sums, list, work, set, p, 1);
-    let table = pair_table();
-    let mut beside = [0u16; 36];
-    let count = list_pairs(&*marks, list, &mut beside, &table, set, p);
-    strike_all(marks, sums, list, raised, set, &beside, count)
 }

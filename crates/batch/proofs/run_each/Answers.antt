@@ -9,31 +9,28 @@ use Rattle.batch.proofs.run_each.Goals as goal
 
 pub loop-i-init : goal.loop-i-init
 loop-i-init c =
-    let l = c.requires.0 in
-    (omega arith, l.marks_long, l.numbers_long, none_done)
+    let l = c.requires in
+    (l.marks_long, l.numbers_long, none_done)
 
 pub run_one-made-requires : goal.run_one-made-requires
 run_one-made-requires c =
     let i = c.loop-i.i in
     let few : i + 1 ≤ grids_in (length c.args.grids.now) = omega (arith, c.loop-i-test.true) in (
-      simp (length-take, length-drop) (omega (arith, few, c.requires.0.whole)),
-      c.requires.1,
-      omega (arith, c.loop-i.invariant.3.made_is, (sum_is c.args.technique c.args.order.now c.args.grids.now c.args.ceiling i).1),
+      omega (arith, c.loop-i.invariant.2.made_is, (sum_is c.args.technique c.args.order.now.entries.now c.args.grids.now c.args.ceiling i).1),
+      simp (length-take, length-drop) (omega (arith, few, c.loop-i.invariant.0)),
       simp (length-take, length-drop) (omega (arith, few, c.loop-i.invariant.1)),
-      simp (length-take, length-drop) (omega (arith, few, c.loop-i.invariant.2)),
     )
 
 pub loop-i-preserved : goal.loop-i-preserved
 loop-i-preserved c =
     let n = grids_in (length c.args.grids.now) in
     let few : c.loop-i.i + 1 ≤ n = omega (arith, c.loop-i-test.true) in
-    let u = one_more c.loop-i.invariant.3 c.run_one-made.new.marks c.run_one-made.new.numbers c.run_one-made.result c.run_one-made.ensures in (
-      few,
-      marks_length u n few c.requires.0.marks_long,
-      numbers_length u n few c.requires.0.numbers_long,
+    let u = one_more c.loop-i.invariant.2 c.run_one-made.new.marks c.run_one-made.new.numbers c.run_one-made.result (rw c.grid_at.ensures at c.run_one-made.ensures) in (
+      marks_length u n few c.requires.marks_long,
+      numbers_length u n few c.requires.numbers_long,
       u,
     )
 
 pub returns : goal.returns
 returns c =
-    all_done c.loop-i.invariant.3 (grids_in (length c.args.grids.now)) (omega (arith, c.loop-i-test.false, c.loop-i.invariant.0)) c.requires.0.marks_long c.requires.0.numbers_long
+    all_done c.loop-i.invariant.2 (grids_in (length c.args.grids.now)) (omega arith) c.requires.marks_long c.requires.numbers_long

@@ -7,16 +7,16 @@ use borrow.Author.Rules.{rules}
 use Rattle.batch.proofs.Parts.{within, filled}
 use Rattle.batch.proofs.run_one.Goals as goal
 
-pub overflow_add-total : goal.overflow_add-total
-overflow_add-total c =
+pub overflow_add-result : goal.overflow_add-result
+overflow_add-result c =
     let r = c.run-ended in
     let a = c.args in
-    omega (arith, c.ranges.ceiling, c.requires.2, within a.technique a.order.now a.grid.now (a.ceiling - a.made) r.result.end r.result.state.marks r.ensures _ _ c.entry_of-told.ensures)
+    omega (arith, c.ranges.ceiling, c.requires.0, within a.technique a.order.now.entries.now a.grid.now (a.ceiling - a.made) r.result.end r.result.marks r.ensures _ _ c.finish-end.ensures)
 
 pub returns : goal.returns
 returns c =
     let r = c.run-ended in
     let a = c.args in
-    let long : length c.finish.new.marks ≡ 729 = search rules in
-    filled a.technique a.order.now a.grid.now (a.ceiling - a.made) r.result.end r.result.state.marks r.ensures _ _ c.entry_of-told.ensures _ _ a.numbers.now c.finish.ensures
-    long c.requires.4 a.made
+    let long : length c.finish-end.new.marks ≡ 729 = search rules in
+    rw c.number.ensures
+    (filled a.technique a.order.now.entries.now a.grid.now (a.ceiling - a.made) r.result.end r.result.marks r.ensures _ _ c.finish-end.ensures a.numbers.now long c.requires.2 a.made)

@@ -1,9 +1,6 @@
--- The number is that of a cell that has been looked at, or of none.
-use Prim.Native.Nat.{◌-◌, ◌≤◌}
+-- The cell is one of the 81.
+use Rattle.std.specs.Prelude.{◌<◌, IfSome}
 use Rattle.branching.proofs.narrowest.Given as goal
 
 abbrev pub invariant-loop-cell : goal.invariant-loop-cell
-invariant-loop-cell l = l.at ≤ 81
-
-abbrev pub decreases-loop-cell : goal.decreases-loop-cell
-decreases-loop-cell l = 81 - l.cell
+invariant-loop-cell l = IfSome l.narrowest (λ cell. cell < 81)

@@ -8,7 +8,7 @@ use borrow.Author.Tests.{le-leb, lt-leb, eq-eqb, ne_eqb}
 use Rattle.clauses.specs.Clauses.{clauses_of}
 use Rattle.clauses.specs.Call.{clause_given, padded}
 use Rattle.clauses.specs.Shape.{IsShape, clause_of}
-use Rattle.clauses.specs.declared.ClauseAnswer.TheVariants.{Length}
+use Rattle.std.specs.Prelude.{Ok}
 use Rattle.clauses.proofs.Numbers.{sizes, set_long, shape_is, clause_at}
 use Rattle.clauses.proofs.clause_of.Goals as goal
 
@@ -17,7 +17,6 @@ unfolding clause_given
 returns-then-clause_count-n c =
     let a = c.args in
     rw (le-leb (length (clauses_of a.set)) a.n (omega (arith, c.clause_count.ensures, c.if-clause_count-n.true)))
-    (ap (λ r. (r, a.out.now)) c.refused.ensures)
 
 pub returns-then-out-ne9 : goal.returns-then-out-ne9
 unfolding clause_given
@@ -25,7 +24,6 @@ returns-then-out-ne9 c =
     let has : c.args.n < length (clauses_of c.args.set) = omega (arith, c.clause_count.ensures, c.if-clause_count-n.false) in
     let a = c.args in
     rw (lt-leb (length (clauses_of a.set)) a.n has, ne_eqb (length a.out.now) 9 c.if-out-ne9.true)
-    (ap (λ r. (r, a.out.now)) c.refused-then-out-ne9.ensures)
 
 pub fill-requires : goal.fill-requires
 fill-requires c =
@@ -40,4 +38,4 @@ returns c =
     let e : clause_of c.shape-s.result ≡ get_or (clauses_of a.set) a.n [] =
     ap clause_of c.shape-s.ensures ∙ sym (clause_at a.set a.n (subst (λ m. a.n < m) (set_long a.set) has)) in
     rw (lt-leb (length (clauses_of a.set)) a.n has, eq-eqb (length a.out.now) 9 c.if-out-ne9.false)
-    λ i. (Length ((c.length_of.ensures ∙ ap length e) i), (c.fill.ensures ∙ ap padded e) i)
+    λ i. (Ok ((c.length_of.ensures ∙ ap length e) i), (c.fill.ensures ∙ ap padded e) i)

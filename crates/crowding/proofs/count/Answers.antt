@@ -1,25 +1,15 @@
--- After k of the nine those of them are counted that are chosen.
-use mathlib.Core.Path.{refl}
-use native.Mathlib.Omega.{arith}
-use borrow.Author.Tests.{eq-eqb, ne_eqb}
-use Rattle.grid.specs.Counting.{total}
-use Rattle.grid.proofs.Counting.{tally_more, tally_bound}
-use Rattle.crowding.specs.Crowding.{chosen}
+-- The truths of the list are counted.
+use mathlib.Core.Path.{◌∙◌}
+use Rattle.std.proofs.Common.{arith, rules, tests}
+use Rattle.std.proofs.lemmas.List.{take_all}
+use Rattle.std.proofs.lemmas.Iterator.{YieldsList-from_slice}
+use Rattle.std.proofs.lemmas.Iterator.Consumers.{YieldsList-from_filter, count_from_yields_List}
+use Rattle.crowding.proofs.Scans.{counted}
 use Rattle.crowding.proofs.count.Goals as goal
-use Rattle.crowding.proofs.count.Goals.{then-list-k-eq1, else-list-k-eq1}
 
-pub loop-k-preserved : goal.loop-k-preserved
-loop-k-preserved c =
-    let v = c.loop-k.invariant in (
-      omega (arith, v),
-      rw tally_more (elim c.if-list-k-eq1.branch [
-        | then-list-k-eq1 w ↦ rw (eq-eqb _ 1 w.if-list-k-eq1.true) (omega (arith, w.n-is, v.1))
-        | else-list-k-eq1 w ↦ rw (ne_eqb _ 1 w.if-list-k-eq1.false) (omega (arith, w.n-is, v.1))
-      ]),
-    )
-
-pub loop-k-init : goal.loop-k-init
-loop-k-init c = (omega arith, unfold total in refl)
-
-pub overflow_add-n : goal.overflow_add-n
-overflow_add-n c = omega (arith, c.loop-k.invariant, tally_bound c.loop-k.k (chosen c.args.list.now))
+pub returns : goal.returns
+returns c =
+    let l = c.args.list.now in
+    count_from_yields_List c.filter.result _ c.count.ensures.ran
+    (YieldsList-from_filter _ (λ x. x) (YieldsList-from_slice l cc) c.filter.ensures.closure (λ x r q k. search (rules, tests)))
+    ∙ rw (take_all 9 l (omega arith)) at (counted l 9 (omega arith))

@@ -1,23 +1,26 @@
--- By the number of completions that the search has found.
+-- By what the search has found.
+use mathlib.Core.Path.{◌≡◌}
+use Rattle.exploration.specs.Search.{zeros}
 use Rattle.grading.proofs.Grading.{marks_complete, only_legal, graded_one, graded_none, graded_several}
 use Rattle.grading.proofs.rate.Goals as goal
+use Rattle.grading.proofs.rate.Goals.{in-Nothing, in-Several}
 
-pub climb-rating-requires : goal.climb-rating-requires
-climb-rating-requires c =
-    let a = c.args in
-    (c.requires.0, c.requires.1, marks_complete a.grid.now c.find-found.result.first c.marks_of-possible.result (only_legal a.grid.now c.find-found.result c.find-found.ensures c.if-found-eq1.true) c.marks_of-possible.ensures)
+pub climb-requires : goal.climb-requires
+climb-requires c =
+    let g = c.args.grid.now in
+    let only = c.in-One.only in
+    marks_complete g only c.marks_of.result (only_legal g only c.in-One.ensures) c.marks_of.ensures
 
-pub returns-then-found-eq1 : goal.returns-then-found-eq1
-returns-then-found-eq1 c =
+pub returns-in-One : goal.returns-in-One
+returns-in-One c =
     let a = c.args in
-    graded_one a.grid.now a.order.now a.ceiling c.find-found.result c.find-found.ensures c.climb-rating.result c.copy_out.new.to c.if-found-eq1.true c.climb-rating.ensures c.copy_out.ensures
+    graded_one a.grid.now a.order.now.entries.now a.ceiling c.in-One.only c.copy_from_slice.new.self c.climb.result c.in-One.ensures c.copy_from_slice.ensures.after c.climb.ensures
 
-pub returns-then-found-eq0 : goal.returns-then-found-eq0
-returns-then-found-eq0 c =
+pub returns : goal.returns
+returns c =
     let a = c.args in
-    graded_none a.grid.now a.order.now a.ceiling c.find-found.result c.find-found.ensures c.copy_out-2.new.to c.if-found-eq0.true c.copy_out-2.ensures
-
-pub returns-else-found-eq0 : goal.returns-else-found-eq0
-returns-else-found-eq0 c =
-    let a = c.args in
-    graded_several a.grid.now a.order.now a.ceiling c.find-found.result c.find-found.ensures c.copy_out-2.new.to c.if-found-eq0.false c.if-found-eq1.false c.copy_out-2.ensures
+    let cleared : c.fill.new.self ≡ zeros = rw c.requires at (c.fill.ensures.after (λ y e. e)) in
+    elim c.match-find.branch [
+      | in-Nothing w ↦ graded_none a.grid.now a.order.now.entries.now a.ceiling c.fill.new.self c.match-find.verdict w.in-Nothing.ensures cleared w.verdict-is
+      | in-Several w ↦ graded_several a.grid.now a.order.now.entries.now a.ceiling w.in-Several.field-0 w.in-Several.field-1 c.fill.new.self c.match-find.verdict w.in-Several.ensures cleared w.verdict-is
+    ]

@@ -1,7 +1,7 @@
 -- One pass over the house: after k cells, place d has the number of those where the digit d + 1 stands.
 use mathlib.Core.Path.{◌≡◌}
 use mathlib.Core.List.{List}
-use Prim.Native.Nat.{ℕ, ◌+◌, ◌-◌, ◌≤◌, ◌<◌}
+use Prim.Native.Nat.{ℕ, ◌+◌, ◌≤◌, ◌<◌}
 use lib.Dec.{eqb}
 use lib.ListN.{length, get_or}
 use Rattle.grid.specs.Counting.{tally}
@@ -16,6 +16,3 @@ pub record Counted (f : ℕ → ℕ) (k : ℕ) (counts : List ℕ) : Type 0 wher
 
 abbrev pub invariant-loop-k : goal.invariant-loop-k
 invariant-loop-k l = (l.k ≤ 9) × Counted (λ j. byte l.candidate (cell_of l.house j)) l.k l.counts
-
-abbrev pub decreases-loop-k : goal.decreases-loop-k
-decreases-loop-k l = 9 - l.k

@@ -1,5 +1,4 @@
 -- A scan of the houses: those before `house` have each digit once.
-use Prim.Native.Nat.{◌-◌}
 use lib.Dec.{eqb}
 use Rattle.grid.specs.Counting.{all}
 use Rattle.grid.specs.Completion.{times}
@@ -8,6 +7,3 @@ use Rattle.grid.proofs.legal.each_once.Given as goal
 
 abbrev pub invariant-loop-house : goal.invariant-loop-house
 invariant-loop-house l = Passed (λ h. all 9 (λ d. eqb (times l.candidate h d) 1)) 27 l.house
-
-abbrev pub decreases-loop-house : goal.decreases-loop-house
-decreases-loop-house l = 27 - l.house

@@ -1,5 +1,4 @@
 -- A scan of the counts: the digits before place d stand once.
-use Prim.Native.Nat.{◌-◌}
 use lib.Dec.{eqb}
 use Rattle.grid.specs.Completion.{times}
 use Rattle.grid.proofs.Counting.{Passed}
@@ -7,6 +6,3 @@ use Rattle.grid.proofs.legal.house_once.Given as goal
 
 abbrev pub invariant-loop-d : goal.invariant-loop-d
 invariant-loop-d l = Passed (λ e. eqb (times l.candidate l.house e) 1) 9 l.d
-
-abbrev pub decreases-loop-d : goal.decreases-loop-d
-decreases-loop-d l = 9 - l.d

@@ -1,52 +1,51 @@
 -- The start of a job, case by case.
-use mathlib.Core.Path.{◌≡◌, ap, sym, ◌∙◌}
-use mathlib.Core.List.{List}
-use Prim.Native.Nat.{ℕ}
+use mathlib.Core.Path.{◌≡◌, ◌∙◌, sym}
 use Rattle.clauses.specs.Clauses.{clauses_of}
 use Rattle.clauses.specs.Models.{givens}
-use Rattle.closure.specs.Marks.{blank}
+use Rattle.closure.specs.Marks.{blank, decided}
 use Rattle.closure.specs.Propagation.{closed, bind, join, unit_closure}
-use Rattle.propagation.specs.Steps.{StateOk, answer_of}
-use Rattle.propagation.proofs.Closing.{givens_computed, closes_answer, closes_state}
-use Rattle.trials.specs.Known.{PossibleOk}
+use Rattle.propagation.proofs.Closing.{givens_computed}
 use Rattle.trials.proofs.Knowing.{completion_possible}
 use Rattle.trials.proofs.Walking.{start_clash, start_full, start_trials, start_open}
 use Rattle.inference.proofs.job.run_with.Goals as goal
+use Rattle.inference.proofs.job.run_with.Goals.{In-Ok, Else-state-eq729}
 
-pub returns-then-decided-eq729 : goal.returns-then-decided-eq729
-returns-then-decided-eq729 c =
-    let marks : List ℕ = c.close_givens-begun.new.marks in
-    let is_closed : closed marks ≡ bind (join blank (givens c.args.grid.now)) (unit_closure (clauses_of c.args.technique.set)) = ap (λ x. answer_of x marks) (sym c.in-Decided.is) ∙ givens_computed c.args.technique.set c.args.grid.now c.close_givens-begun.ensures in
-    let state : StateOk c.args.technique.set marks c.close_givens-begun.new.sums c.in-Decided.decided = closes_state c.close_givens-begun.ensures _ c.in-Decided.is in
+-- the marks are those of the unit closure of the givens
+is_closed : (c : In-Ok) → closed c.in-Ok.state.marks ≡ bind (join blank (givens c.args.grid.now)) (unit_closure (clauses_of c.args.technique.set))
+is_closed c = givens_computed c.args.technique.set c.args.grid.now c.in-Ok.ensures
+
+-- and some are undecided
+is_open : (c : Else-state-eq729) → decided c.in-Ok.state.marks ≡ 729 → ⊥
+is_open c e = c.if-state-eq729.false (c.in-Ok.ensures.state.count ∙ e)
+
+pub returns-in_default : goal.returns-in_default
+returns-in_default c =
     let a = c.args in
-    start_full (clauses_of a.technique.set) a.ceiling a.technique.trials a.order.now (givens a.grid.now) marks is_closed (sym state.count ∙ c.if-decided-eq729.true)
+    c.untried.ensures ∙ start_clash (clauses_of a.technique.set) a.ceiling a.technique.trials a.order.now.entries.now (givens a.grid.now) (givens_computed a.technique.set a.grid.now c.in_default.ensures)
+
+pub returns-then-state-eq729 : goal.returns-then-state-eq729
+returns-then-state-eq729 c =
+    let a = c.args in
+    let e = is_closed (goal.at.returns-then-state-eq729 c).In-Ok in
+    c.untried-then-state-eq729.ensures
+    ∙ start_full (clauses_of a.technique.set) a.ceiling a.technique.trials a.order.now.entries.now (givens a.grid.now) c.in-Ok.state.marks e (sym c.in-Ok.ensures.state.count ∙ c.if-state-eq729.true)
 
 pub passes-requires : goal.passes-requires
 passes-requires c =
-    let marks : List ℕ = c.close_givens-begun.new.marks in
-    let state : StateOk c.args.technique.set marks c.close_givens-begun.new.sums c.in-Decided.decided = closes_state c.close_givens-begun.ensures _ c.in-Decided.is in
-    let possible : PossibleOk c.args.technique.set marks c.args.possible.now = completion_possible c.args.technique.set c.args.grid.now marks c.requires.2 (closes_answer c.close_givens-begun.ensures _ c.in-Decided.is) in
-    (state, possible, c.requires.1)
-
-pub returns-in-Clash : goal.returns-in-Clash
-returns-in-Clash c =
     let a = c.args in
-    start_clash (clauses_of a.technique.set) a.ceiling a.technique.trials a.order.now (givens a.grid.now)
-    (ap (λ x. answer_of x c.close_givens-begun.new.marks) (sym c.in-Clash.is) ∙ givens_computed a.technique.set a.grid.now c.close_givens-begun.ensures)
+    let v = c.in-Ok.ensures in
+    (v.state, completion_possible a.technique.set a.grid.now c.in-Ok.state.marks c.requires v.answer)
 
 pub returns-then-technique : goal.returns-then-technique
 returns-then-technique c =
-    let marks : List ℕ = c.close_givens-begun.new.marks in
-    let is_closed : closed marks ≡ bind (join blank (givens c.args.grid.now)) (unit_closure (clauses_of c.args.technique.set)) = ap (λ x. answer_of x marks) (sym c.in-Decided.is) ∙ givens_computed c.args.technique.set c.args.grid.now c.close_givens-begun.ensures in
-    let state : StateOk c.args.technique.set marks c.close_givens-begun.new.sums c.in-Decided.decided = closes_state c.close_givens-begun.ensures _ c.in-Decided.is in
+    let at = goal.at.returns-then-technique c in
     let a = c.args in
-    c.passes.ensures.0
-    ∙ start_trials (clauses_of a.technique.set) a.ceiling a.technique.trials a.order.now (givens a.grid.now) marks is_closed (λ x. c.if-decided-eq729.false (state.count ∙ x)) c.if-technique.true
+    c.passes.ensures
+    ∙ start_trials (clauses_of a.technique.set) a.ceiling a.technique.trials a.order.now.entries.now (givens a.grid.now) c.in-Ok.state.marks (is_closed at.In-Ok) (is_open at.Else-state-eq729) c.if-technique.true
 
 pub returns-else-technique : goal.returns-else-technique
 returns-else-technique c =
-    let marks : List ℕ = c.close_givens-begun.new.marks in
-    let is_closed : closed marks ≡ bind (join blank (givens c.args.grid.now)) (unit_closure (clauses_of c.args.technique.set)) = ap (λ x. answer_of x marks) (sym c.in-Decided.is) ∙ givens_computed c.args.technique.set c.args.grid.now c.close_givens-begun.ensures in
-    let state : StateOk c.args.technique.set marks c.close_givens-begun.new.sums c.in-Decided.decided = closes_state c.close_givens-begun.ensures _ c.in-Decided.is in
+    let at = goal.at.returns-else-technique c in
     let a = c.args in
-    start_open (clauses_of a.technique.set) a.ceiling a.technique.trials a.order.now (givens a.grid.now) marks is_closed (λ x. c.if-decided-eq729.false (state.count ∙ x)) c.if-technique.false
+    c.untried-else-technique.ensures
+    ∙ start_open (clauses_of a.technique.set) a.ceiling a.technique.trials a.order.now.entries.now (givens a.grid.now) c.in-Ok.state.marks (is_closed at.In-Ok) (is_open at.Else-state-eq729) c.if-technique.false

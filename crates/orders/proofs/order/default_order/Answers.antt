@@ -28,13 +28,11 @@ pub loop-k-preserved : goal.loop-k-preserved
 loop-k-preserved c =
     let k = c.loop-k.k in
     let h = c.loop-k-test.true in
-    let double : 2 * (k + 1) ≡ 2 * k + 1 + 1 = omega arith in (
-      omega arith,
-      rw (double, returned _ c.positive.type_inv ∙ c.positive.ensures, returned _ c.negative.type_inv ∙ c.negative.ensures)
-          (begun_more (2 * k + 1) _ (negsuc k) (begun_more (2 * k) c.loop-k.order (pos (suc k)) c.loop-k.invariant.1 h (omega arith)) h (omega arith)),
-    )
+    let double : 2 * (k + 1) ≡ 2 * k + 1 + 1 = omega arith in
+    rw (double, returned _ c.positive.type_inv ∙ c.positive.ensures, returned _ c.negative.type_inv ∙ c.negative.ensures)
+    (begun_more (2 * k + 1) _ (negsuc k) (begun_more (2 * k) c.loop-k.order (pos (suc k)) c.loop-k.invariant h (omega arith)) h (omega arith))
 
 pub returns : goal.returns
 returns c =
-    let b = c.loop-k.invariant.1 in
+    let b = c.loop-k.invariant in
     ext_get_or (pos 0) c.loop-k.order default_order (b.long ∙ sym default_long) (λ j h. b.same j (omega (arith, b.long)))

@@ -1,7 +1,7 @@
 -- The first 2 k entries are the default order's; after 729 turns all are.
 use mathlib.Core.Path.{◌≡◌}
 use mathlib.Core.List.{List}
-use Prim.Native.Nat.{ℕ, ◌*◌, ◌-◌, ◌≤◌, ◌<◌}
+use Prim.Native.Nat.{ℕ, ◌*◌, ◌<◌}
 use lib.IntN.{ℤ}
 use lib.ListN.{length}
 use Rattle.orders.specs.Order.{default_order}
@@ -14,7 +14,4 @@ pub record Begun (n : ℕ) (o : List ℤ) : Type 0 where
   pub same : (j : ℕ) → j < n → entry o j ≡ entry default_order j
 
 abbrev pub invariant-loop-k : goal.invariant-loop-k
-invariant-loop-k l = (l.k ≤ 729) × Begun (2 * l.k) l.order
-
-abbrev pub decreases-loop-k : goal.decreases-loop-k
-decreases-loop-k l = 729 - l.k
+invariant-loop-k l = Begun (2 * l.k) l.order

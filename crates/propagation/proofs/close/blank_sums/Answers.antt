@@ -27,10 +27,10 @@ loop-q-preserved c =
     let w = c.loop-q in
     let q = w.q in
     let b = c.loop-q-test.true in
-    let r = w.invariant.1 in
+    let r = w.invariant in
     let none : Filling q 0 w.sums = record { long = r.long; before = r.sums; here = λ i h. absurd (omega arith) } in
     let v = fill q 3 _ (243 + q) (omega arith) b (omega arith) (fill q 2 _ (162 + q) (omega arith) b (omega arith) (fill q 1 _ (81 + q) (omega arith) b (omega arith) (fill q 0 w.sums q (omega arith) b (omega arith) none))) in
-    (omega arith, record { long = v.long; sums = λ i p h k. elim (ℕ_discrete p q) [ yes e ↦ rw e (v.here i h) | no e ↦ v.before i p h (omega arith) ] })
+    record { long = v.long; sums = λ i p h k. elim (ℕ_discrete p q) [ yes e ↦ rw e (v.here i h) | no e ↦ v.before i p h (omega arith) ] }
 
 pub returns : goal.returns
-returns c = let w = c.loop-q in blank_sums_ok w.sums w.invariant.1.long (λ i q h b. w.invariant.1.sums i q h (omega (arith, c.loop-q-test.false)))
+returns c = let w = c.loop-q in blank_sums_ok w.sums w.invariant.long (λ i q h b. w.invariant.sums i q h (omega (arith, c.loop-q-test.false)))

@@ -1,7 +1,7 @@
 -- The first q sums of each kind are those of nothing decided.
 use mathlib.Core.Path.{◌≡◌}
 use mathlib.Core.List.{List}
-use Prim.Native.Nat.{ℕ, ◌+◌, ◌*◌, ◌-◌, ◌≤◌, ◌<◌}
+use Prim.Native.Nat.{ℕ, ◌+◌, ◌*◌, ◌<◌}
 use lib.ListN.{length, get_or}
 use Rattle.propagation.proofs.Givens.{blank_sum}
 use Rattle.propagation.proofs.close.blank_sums.Given as goal
@@ -18,7 +18,4 @@ pub record Filling (q n : ℕ) (a : List ℕ) : Type 0 where
   pub here : (i : ℕ) → i < n → get_or a (81 * i + q) 0 ≡ blank_sum i q
 
 abbrev pub invariant-loop-q : goal.invariant-loop-q
-invariant-loop-q l = (l.q ≤ 81) × Filled l.q l.sums
-
-abbrev pub decreases-loop-q : goal.decreases-loop-q
-decreases-loop-q l = 81 - l.q
+invariant-loop-q l = Filled l.q l.sums

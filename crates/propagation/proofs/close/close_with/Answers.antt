@@ -12,15 +12,16 @@ use lib.Signed.{lt_z}
 use Rattle.clauses.specs.Literal.{Literal}
 use Rattle.clauses.specs.declared.ClauseSet.{ClauseSet}
 use Rattle.closure.specs.Marks.{is_decided}
-use Rattle.propagation.specs.Steps.{StateOk}
+use Rattle.propagation.specs.Steps.{Closed}
 use Rattle.clauses.proofs.Signed.{read, test_of}
 use Rattle.worklist.specs.Acting.{Ready, Undecided, Struck, Stepped}
-use Rattle.worklist.specs.declared.acting.Work.{Work}
+use Rattle.worklist.specs.declared.acting.State.{State}
+use Rattle.worklist.specs.declared.acting.Worklist.{Worklist}
 use Rattle.worklist.proofs.Literals.{place_read, place_at, byte_of, place_below, open_byte, has_set}
 use Rattle.propagation.proofs.Looking.{stepped_none}
 use Rattle.propagation.proofs.Closing.{state_ready, closed_struck, struck_false, closes_begun}
 use Rattle.propagation.proofs.close.close_with.Goals as goal
-use Rattle.propagation.proofs.close.close_with.Goals.{then-literal-lt0, else-literal-lt0}
+use Rattle.propagation.proofs.close.close_with.Goals.{Joined-literal-lt0, then-literal-lt0, else-literal-lt0}
 
 -- the byte by the sign
 below_byte : (l : ℤ) → lt_z l (pos 0) ≡ true → byte_of l ≡ 2
@@ -32,81 +33,70 @@ above_byte (pos k) e = refl
 above_byte (negsuc k) e = absurd (subst T e tt)
 
 -- what an undecided literal l says of the marks, where p is its place
-module _ (s : ClauseSet) (marks sums : List ℕ) (decided : ℕ) (l : ℤ) (ok : StateOk s marks sums decided) (lit : Literal l) (undone : T (is_decided marks l) → ⊥)
-    (p : ℕ) (is_place : p ≡ place_at l) where
-  undecided : Undecided marks p
-  undecided = subst (Undecided marks) (sym is_place) (place_below l lit, open_byte marks ok.marks.marks l lit undone)
+module _ (s : ClauseSet) (st : State) (l : ℤ) (ok : Closed s st) (lit : Literal l) (undone : T (is_decided st.marks l) → ⊥) (p : ℕ) (is_place : p ≡ place_at l) where
+  undecided : Undecided st.marks p
+  undecided = subst (Undecided st.marks) (sym is_place) (place_below l lit, open_byte st.marks ok.marks.marks l lit undone)
 
-  struck : Struck s marks
-  struck = closed_struck s marks ok.marks.closed
+  struck : Struck s st.marks
+  struck = closed_struck s st.marks ok.marks.closed
 
   -- the marks with the literal
   abbrev marked : List ℕ
-  marked = set marks (place_at l) (byte_of l)
+  marked = set st.marks (place_at l) (byte_of l)
 
-  module _ {m' a' ls' : List ℕ} {w' : Work} where
+  module _ {st' : State} {l' : Worklist} where
     -- a place that is false
-    begun_false : byte_of l ≡ 2 → m' ≡ set marks p 2 → Ready s (λ x. ⊥) m' a' ls' w' → Stepped s marked m' a' ls' w'
+    begun_false : byte_of l ≡ 2 → st'.marks ≡ set st.marks p 2 → Ready s (λ x. ⊥) st' l' → Stepped s marked st' l'
     begun_false b e r =
-        let q : m' ≡ marked = e ∙ ap (λ p. set marks p 2) is_place ∙ ap (set marks (place_at l)) (sym b) in
-        let z = subst (Undecided marks) is_place undecided in
-        subst (λ y. Stepped s y m' a' ls' w') q
-        (stepped_none s r (subst (Struck s) (sym (e ∙ ap (λ p. set marks p 2) is_place)) (struck_false s marks (place_at l) ok.marks.marks z struck)))
+        let q : st'.marks ≡ marked = e ∙ ap (λ p. set st.marks p 2) is_place ∙ ap (set st.marks (place_at l)) (sym b) in
+        let z = subst (Undecided st.marks) is_place undecided in
+        subst (λ y. Stepped s y st' l') q
+        (stepped_none s r (subst (Struck s) (sym (e ∙ ap (λ p. set st.marks p 2) is_place)) (struck_false s st.marks (place_at l) ok.marks.marks z struck)))
 
     -- a place that is true
-    begun_true : byte_of l ≡ 1 → Stepped s (set marks p 1) m' a' ls' w' → Stepped s marked m' a' ls' w'
-    begun_true b v = subst (λ y. Stepped s y m' a' ls' w') (ap (λ p. set marks p 1) is_place ∙ ap (set marks (place_at l)) (sym b)) v
+    begun_true : byte_of l ≡ 1 → Stepped s (set st.marks p 1) st' l' → Stepped s marked st' l'
+    begun_true b v = subst (λ y. Stepped s y st' l') (ap (λ p. set st.marks p 1) is_place ∙ ap (set st.marks (place_at l)) (sym b)) v
 
-pub assign-begun-requires : goal.assign-begun-requires
-assign-begun-requires c =
+pub assign-requires : goal.assign-requires
+assign-requires c =
     let a = c.args in
     let r = c.requires in
     let p = place_read c.mark_index-p.ensures (read a.literal c.ranges.literal) r.1 in
-    (state_ready a.set r.0 c.room.ensures, undecided a.set a.marks.now a.sums.now a.decided a.literal r.0 r.1 r.2 _ p, (omega arith, omega arith))
+    (state_ready a.set r.0 c.clear.ensures, undecided a.set a.state.now a.literal r.0 r.1 r.2 _ p, (omega arith, omega arith))
 
-pub affirm-begun-requires : goal.affirm-begun-requires
-affirm-begun-requires c =
+pub affirm-requires : goal.affirm-requires
+affirm-requires c =
     let a = c.args in
     let r = c.requires in
     let p = place_read c.mark_index-p.ensures (read a.literal c.ranges.literal) r.1 in (
-      state_ready a.set r.0 c.room.ensures,
-      struck a.set a.marks.now a.sums.now a.decided a.literal r.0 r.1 r.2 _ p,
-      undecided a.set a.marks.now a.sums.now a.decided a.literal r.0 r.1 r.2 _ p,
+      state_ready a.set r.0 c.clear.ensures,
+      struck a.set a.state.now a.literal r.0 r.1 r.2 _ p,
+      undecided a.set a.state.now a.literal r.0 r.1 r.2 _ p,
     )
 
-pub propagate-requires : goal.propagate-requires
-propagate-requires c =
+-- the literal is marked, by the branch that ran
+begun : (c : Joined-literal-lt0) → Stepped c.args.set (set c.args.state.now.marks (place_at c.args.literal) (byte_of c.args.literal)) c.if-literal-lt0.state c.if-literal-lt0.list
+begun c =
     let a = c.args in
     let r = c.requires in
-    let i = c.if-literal-lt0 in
     let p = place_read c.mark_index-p.ensures (read a.literal c.ranges.literal) r.1 in
-    let v : Stepped a.set (set a.marks.now (place_at a.literal) (byte_of a.literal)) i.marks i.sums i.list i.begun = elim i.branch [
+    elim c.if-literal-lt0.branch [
       | then-literal-lt0 w ↦
-          rw (w.marks-is, w.sums-is, w.list-is, w.begun-is)
-          (begun_false a.set a.marks.now a.sums.now a.decided a.literal r.0 r.1 r.2 _ p
-          (below_byte a.literal (test_of (λ z. lt_z z (pos 0)) true a.literal c.ranges.literal w.if-literal-lt0.true)) w.assign-begun.ensures.0 w.assign-begun.ensures.2)
+          rw (w.state-is, w.list-is)
+          (begun_false a.set a.state.now a.literal r.0 r.1 r.2 _ p
+          (below_byte a.literal (test_of (λ z. lt_z z (pos 0)) true a.literal c.ranges.literal w.if-literal-lt0.true)) w.assign.ensures.0 w.assign.ensures.2)
       | else-literal-lt0 w ↦
-          rw (w.marks-is, w.sums-is, w.list-is, w.begun-is)
-          (begun_true a.set a.marks.now a.sums.now a.decided a.literal r.0 r.1 r.2 _ p
-          (above_byte a.literal (test_of (λ z. lt_z z (pos 0)) false a.literal c.ranges.literal w.if-literal-lt0.false)) w.affirm-begun.ensures.0)
-    ] in
-    (v.ready, v.struck)
+          rw (w.state-is, w.list-is)
+          (begun_true a.set a.state.now a.literal r.0 r.1 r.2 _ p
+          (above_byte a.literal (test_of (λ z. lt_z z (pos 0)) false a.literal c.ranges.literal w.if-literal-lt0.false)) w.affirm.ensures.0)
+    ]
+
+pub propagate-requires : goal.propagate-requires
+propagate-requires c = let v = begun (goal.at.propagate-requires c).Joined-literal-lt0 in (v.ready, v.struck)
 
 pub returns : goal.returns
 returns c =
     let a = c.args in
     let r = c.requires in
-    let i = c.if-literal-lt0 in
-    let p = place_read c.mark_index-p.ensures (read a.literal c.ranges.literal) r.1 in
-    let v : Stepped a.set (set a.marks.now (place_at a.literal) (byte_of a.literal)) i.marks i.sums i.list i.begun = elim i.branch [
-      | then-literal-lt0 w ↦
-          rw (w.marks-is, w.sums-is, w.list-is, w.begun-is)
-          (begun_false a.set a.marks.now a.sums.now a.decided a.literal r.0 r.1 r.2 _ p
-          (below_byte a.literal (test_of (λ z. lt_z z (pos 0)) true a.literal c.ranges.literal w.if-literal-lt0.true)) w.assign-begun.ensures.0 w.assign-begun.ensures.2)
-      | else-literal-lt0 w ↦
-          rw (w.marks-is, w.sums-is, w.list-is, w.begun-is)
-          (begun_true a.set a.marks.now a.sums.now a.decided a.literal r.0 r.1 r.2 _ p
-          (above_byte a.literal (test_of (λ z. lt_z z (pos 0)) false a.literal c.ranges.literal w.if-literal-lt0.false)) w.affirm-begun.ensures.0)
-    ] in
-    closes_begun a.set a.marks.now (set a.marks.now (place_at a.literal) (byte_of a.literal)) i.marks
-    (has_set a.marks.now a.literal r.0.marks.marks r.1 (open_byte a.marks.now r.0.marks.marks a.literal r.1 r.2)) v c.propagate.ensures
+    let m = a.state.now.marks in
+    closes_begun a.set m (set m (place_at a.literal) (byte_of a.literal)) (has_set m a.literal r.0.marks.marks r.1 (open_byte m r.0.marks.marks a.literal r.1 r.2)) (begun (goal.at.returns c).Joined-literal-lt0) c.propagate.ensures

@@ -3,8 +3,8 @@ use Prim.Native.Nat.{◌+◌, ◌*◌, ◌-◌}
 use Rattle.worklist.specs.Acting.{Stepped}
 use Rattle.propagation.proofs.close.propagate.Given as goal
 
-abbrev pub invariant-loop-w : goal.invariant-loop-w
-invariant-loop-w l = Stepped l.set l.initial.marks l.marks l.sums l.list l.w
+abbrev pub invariant-loop-clause : goal.invariant-loop-clause
+invariant-loop-clause l = Stepped l.set l.fn.state.marks l.state l.list
 
-abbrev pub decreases-loop-w : goal.decreases-loop-w
-decreases-loop-w l = (729 - l.w.decided) * 2917 + l.w.listed
+abbrev pub decreases-loop-clause : goal.decreases-loop-clause
+decreases-loop-clause l = (729 - l.state.decided) * 2917 + l.list.listed

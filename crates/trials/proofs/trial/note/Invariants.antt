@@ -1,12 +1,9 @@
 -- The bytes before the place are joined, and the others as they were.
 use mathlib.Core.Path.{◌≡◌}
-use Prim.Native.Nat.{ℕ, ◌-◌, ◌≤◌, ◌<◌}
+use Prim.Native.Nat.{ℕ, ◌≤◌, ◌<◌}
 use lib.Bits.{bit_or}
 use lib.ListN.{length, get_or}
 use Rattle.trials.proofs.trial.note.Given as goal
 
-abbrev pub invariant-loop-i : goal.invariant-loop-i
-invariant-loop-i l = (l.i ≤ 729) × (length l.known ≡ 729) × ((p : ℕ) → p < l.i → get_or l.known p 0 ≡ bit_or (get_or l.initial.known p 0) (get_or l.marks p 0)) × ((p : ℕ) → l.i ≤ p → get_or l.known p 0 ≡ get_or l.initial.known p 0)
-
-abbrev pub decreases-loop-i : goal.decreases-loop-i
-decreases-loop-i l = 729 - l.i
+abbrev pub invariant-loop-p : goal.invariant-loop-p
+invariant-loop-p l = (length l.known ≡ 729) × ((p : ℕ) → p < l.p → get_or l.known p 0 ≡ bit_or (get_or l.initial.known p 0) (get_or l.marks p 0)) × ((p : ℕ) → l.p ≤ p → get_or l.known p 0 ≡ get_or l.initial.known p 0)

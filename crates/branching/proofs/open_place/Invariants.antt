@@ -1,9 +1,0 @@
--- Every place of a group is below 729.
-use Prim.Native.Nat.{◌-◌, ◌≤◌}
-use Rattle.branching.proofs.open_place.Given as goal
-
-abbrev pub invariant-loop-k : goal.invariant-loop-k
-invariant-loop-k l = l.k ≤ 8
-
-abbrev pub decreases-loop-k : goal.decreases-loop-k
-decreases-loop-k l = 8 - l.k
