@@ -15,7 +15,7 @@ use crowding::crowded;
 use propagation::close::{Clash, close_true, close_with};
 use worklist::acting::{State, Worklist};
 
-// How many groups there are: the cells, then each house for each digit.
+// How many groups there are: the cells, then each house for each digit. Cells and places are plain numbers, as they are computed.
 const GROUPS: usize = 324;
 
 // The groups by number.

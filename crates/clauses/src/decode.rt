@@ -1,30 +1,16 @@
 // The shape of a clause, by arithmetic on its number, and its literals.
 ghost use Rattle.std.specs.Prelude.{◌≡◌, ◌<◌, ◌∷◌, [], negsuc, length};
-ghost use Rattle.grid.specs.House.{cell_of};
 ghost use Rattle.clauses.specs.Call.{padded};
 ghost use Rattle.clauses.specs.Shape.{place_of, IsGroup, IsShape, clause_of, shape_of, pair_of, row_pair, rows_pair, column_of, row_of, box_of};
 
 use crate::{Group, Shape, literal};
+use grid::house_cell;
 
 // The pairs of places of a group, i below j, in index order: 10 i + j.
-const PAIRS: [u8; 36] = [
+static PAIRS: [u8; 36] = [
     1, 2, 3, 4, 5, 6, 7, 8, 12, 13, 14, 15, 16, 17, 18, 23, 24, 25, 26, 27, 28, 34, 35, 36, 37, 38,
     45, 46, 47, 48, 56, 57, 58, 67, 68, 78,
 ];
-
-// The k-th cell of a house, by arithmetic: a table would be built anew at each use.
-fn cell(house: usize, k: usize) -> usize
-    requires { (house < 27) × (k < 9) }
-    ensures { result ≡ cell_of house k }
-{
-    if house < 9 {
-        9 * house + k
-    } else if house < 18 {
-        9 * k + (house - 9)
-    } else {
-        9 * (3 * ((house - 18) / 3) + k / 3) + (3 * ((house - 18) % 3) + k % 3)
-    }
-}
 
 // The k-th place of a group.
 pub fn place(group: Group, k: usize) -> usize
@@ -33,7 +19,7 @@ pub fn place(group: Group, k: usize) -> usize
 {
     match group {
         Group::Cell(c) => 9 * c + k,
-        Group::House(h, d) => 9 * cell(h, k) + d,
+        Group::House(h, d) => 9 * house_cell(h, k) + d,
     }
 }
 
@@ -124,7 +110,7 @@ pub(crate) fn length_of(shape: Shape) -> usize
     }
 }
 
-// The literals of a whole group.
+// The literals of a whole group. The nine that are lent stay a slice, as hosts lend them.
 fn fill_group(group: Group, out: &mut [i16])
     requires { IsGroup group × (length out.old ≡ 9) }
     ensures { out.new ≡ padded (clause_of (Shape.OneOf group)) }

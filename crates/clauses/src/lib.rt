@@ -21,7 +21,8 @@ pub enum ClauseSet {
     Extended,
 }
 
-// Nine variables of which a full grid makes one true: the digits of a cell, or the cells of a house for one digit.
+// Nine variables of which a full grid makes one true: the digits of a cell, or the cells of a house for one digit. Cells, houses and digits are plain
+// numbers: they are computed, so that a type with their bound would be made and taken apart at each use.
 #[derive(Clone, Copy)]
 pub enum Group {
     Cell(usize),

@@ -1,4 +1,5 @@
-// Literals as signed 16-bit numbers: +v and -v, v from 1 to 729. 0 is none.
+// Literals as signed 16-bit numbers: +v and -v, v from 1 to 729. 0 is none. They stay numbers, as hosts lend them in an order: a type would be made of
+// each that is read.
 ghost use Rattle.std.specs.Prelude.{◌≡◌, suc, ◌<◌, pos, negsuc, nat_abs};
 ghost use Rattle.clauses.specs.Literal.{is_literal, negation, mark_index};
 

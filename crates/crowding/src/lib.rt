@@ -1,5 +1,6 @@
 // Crowded houses: where some cells of a house have fewer digits left between them than they are, no full grid fits the marks. Which cells
 // that may be is found by bits, of which nothing is promised; then it is counted and looked at, place by place, that they are such cells.
+// Houses and cells are plain numbers, as they are computed: a type with their bound would be made and taken apart at each use.
 //
 //     crowded    whether some house is found to be crowded
 #![tactic(auto)]
@@ -47,7 +48,7 @@ fn unions_in(marks: &[u8; 729], house: usize) -> [u16; 512]
     unions
 }
 
-// How many bits each number has.
+// How many bits each number has, made once for all houses: of the digits of a choice and of the choice itself, so that it is no part of either.
 fn bit_counts() -> [u32; 512] {
     let mut counts = [0u32; 512];
     for (n, count) in counts.iter_mut().enumerate() {

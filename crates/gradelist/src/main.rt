@@ -62,7 +62,8 @@ impl Output {
     }
 }
 
-// The line that is being read: its number, as far as numbers go, and its first 82 bytes, which tell any longer line.
+// The line that is being read: its number, as far as numbers go, and its first 82 bytes, which tell any longer line. Fixed memory,
+// however long it is.
 #[derive(Drop)]
 struct Line {
     number: u64,

@@ -28,7 +28,7 @@ pub enum Verdict {
 }
 
 impl Verdict {
-    // The number that hosts and listings are told.
+    // The number that hosts and listings are told. It is a method, since `u32::from` would not say which number.
     pub fn number(self) -> u32
         ensures { result ≡ number_of self }
     {

@@ -55,7 +55,8 @@ fn keeps_givens(grid: &[u8], candidate: &[u8]) -> bool
     true
 }
 
-// How often each digit stands in a house, digit d + 1 at place d.
+// How often each digit stands in a house, digit d + 1 at place d. What is asked of the candidate the test has shown before: a type for that would
+// stand for this and the next two steps alone.
 fn count_digits(candidate: &[u8], house: usize) -> [u8; 9]
     requires { (is_full candidate.now ≡ true) × (house < 27) }
     ensures { (d : ℕ) → d < 9 → get_or result d 0 ≡ times candidate.now house d }

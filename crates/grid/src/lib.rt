@@ -43,7 +43,7 @@ pub enum Refusal {
 }
 
 impl Refusal {
-    // The number that hosts and listings are told.
+    // The number that hosts and listings are told. It is a method, since `u32::from` would not say which number.
     pub fn number(self) -> u32
         ensures { result ≡ number_of self }
     {
@@ -132,7 +132,7 @@ pub fn check_grid(grid: &[u8]) -> Result<(), Refusal>
 }
 
 // The cells of the 27 houses: nine rows, nine columns, nine boxes.
-const HOUSES: [[u8; 9]; 27] = [
+static HOUSES: [[u8; 9]; 27] = [
     [0, 1, 2, 3, 4, 5, 6, 7, 8],
     [9, 10, 11, 12, 13, 14, 15, 16, 17],
     [18, 19, 20, 21, 22, 23, 24, 25, 26],
@@ -163,7 +163,7 @@ const HOUSES: [[u8; 9]; 27] = [
 ];
 
 // The k-th cell of a house.
-fn house_cell(house: usize, k: usize) -> usize
+pub fn house_cell(house: usize, k: usize) -> usize
     requires { (house < 27) × (k < 9) }
     ensures { result ≡ cell_of house k }
 {

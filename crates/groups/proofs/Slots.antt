@@ -251,24 +251,6 @@ clause_number x = elim (dec_lt x 81) [
   | no b ↦ (let c : 81 ≤ x = omega arith in inr (c, rw (le-ltb x 81 c)))
 ]
 
--- by kind
-module _ (p : ℕ) (h : p < 729) where
-  pub cell_clause : clause_in (slot_at Cell p) ≡ p / 9
-  unfolding slot_at
-  cell_clause = ⊎_elim (λ u. u.1) (λ u. absurd (omega (arith, u.0))) (clause_number (p / 9))
-
-  pub column_clause : clause_in (slot_at Column p) ≡ 11745 + p % 81
-  unfolding slot_at
-  column_clause = ⊎_elim (λ u. absurd (omega (arith, u.0))) (λ u. omega (arith, u.1)) (clause_number (81 + p % 81))
-
-  pub row_clause : clause_in (slot_at Row p) ≡ 11826 + (9 * (p / 81) + p % 9)
-  unfolding slot_at
-  row_clause = ⊎_elim (λ u. absurd (omega (arith, u.0))) (λ u. omega (arith, u.1)) (clause_number (162 + (9 * (p / 81) + p % 9)))
-
-  pub box_clause : clause_in (slot_at Box p) ≡ 11907 + (9 * (p % 9) + (3 * (p / 243) + p / 27 % 3))
-  unfolding slot_at
-  box_clause = ⊎_elim (λ u. absurd (omega (arith, u.0))) (λ u. omega (arith, u.1)) (clause_number (243 + (9 * (p % 9) + (3 * (p / 243) + p / 27 % 3))))
-
 pub clause_once : (x y : ℕ) → x < 324 → y < 324 → clause_in x ≡ clause_in y → x ≡ y
 clause_once x y a b e = ⊎_elim
     (λ u. ⊎_elim (λ v. omega (arith, u.1, v.1, e)) (λ v. omega (arith, u.1, v.1, e)) (clause_number y))

@@ -1,5 +1,6 @@
 // The groups of a place: nine places each, of which a full grid makes one true, and the numbers of the clauses over them. A nine-literal clause has
 // a slot, in which its sum stands: one for each group, in the order of document 01's numbers. A two-literal clause is a pair of places of a group.
+// Places are plain numbers below 729, as they are computed: a type with that bound would be made and taken apart at each use.
 #![tactic(auto)]
 
 ghost use Rattle.std.specs.Prelude.{◌≡◌, ℕ, ◌/◌, ◌<◌};
@@ -128,16 +129,16 @@ impl Kind {
     }
 
     // The number of the nine-literal clause of the group of this kind at place p.
-    #[tactic(auto, using(crate::proofs::Slots::box_row, crate::proofs::Slots::box_column, crate::proofs::Slots::cell_clause, crate::proofs::Slots::column_clause, crate::proofs::Slots::row_clause, crate::proofs::Slots::box_clause))]
+    #[tactic(auto, using(crate::proofs::Slots::slot_below), unfolding(crate::specs::Groups::clause_in))]
     pub fn clause_at(self, p: usize) -> u16
         requires { p < 729 }
         ensures { result ≡ clause_in (slot_at self p) }
     {
-        match self {
-            Kind::Cell => (p / 9) as u16,
-            Kind::Column => (11745 + p % 81) as u16,
-            Kind::Row => (11826 + (9 * (p / 81) + p % 9)) as u16,
-            Kind::Box => (11907 + (9 * (p % 9) + (3 * (p / 81 / 3) + p / 9 % 9 / 3))) as u16,
+        let slot = self.slot_at(p);
+        if slot < 81 {
+            slot as u16
+        } else {
+            (11664 + slot) as u16
         }
     }
 }

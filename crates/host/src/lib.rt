@@ -109,7 +109,7 @@ pub extern "C" fn grader_read_job_file(file: &[u8], grid: &mut [u8], order: &mut
 pub extern "C" fn grader_header(out: &mut [u8; 20])
     ensures { out.new ≡ header_line }
 {
-    *out = listing::HEADER;
+    *out = listing::header();
 }
 
 #[unsafe(no_mangle)]

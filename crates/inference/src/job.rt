@@ -65,7 +65,7 @@ pub fn run(technique: Technique, grid: &[u8; 81], order: &Order, ceiling: u32) -
     run_with(technique, grid, order, ceiling, &none)
 }
 
-// The end of a job, whose marks are written out: all 0 after a contradiction.
+// The end of a job, whose marks are written out, as hosts lend them: all 0 after a contradiction.
 pub fn finish(ended: Ended, marks: &mut [u8]) -> End
     requires { length marks.old ≡ 729 }
     ensures { (Ok result, marks.new) ≡ finished (end_of ended.end ended.marks) }

@@ -104,11 +104,16 @@ accepted_order o e = let t = (accepted_iff o).0 e in (
       subst T f ((repeats_iff o j).1 (i, a, q)),
 )
 
-pub accepted_long : (o : List ℤ) → order_check o ≡ Ok tt → length o ≡ 1458
-accepted_long o e = (accepted_order o e).0
+-- so no entry of an order that is accepted is anything but a literal
+pub accepted_no_other : (o : List ℤ) → order_check o ≡ Ok tt → first_no_literal o ≡ length o
+unfolding first_no_literal
+accepted_no_other o e =
+    let t = (accepted_iff o).0 e in
+    position_or_len_is no_literal o (length o) (pos 0) (omega arith) (λ k b. fails_before_first no_literal o k (pos 0) (omega (arith, t.0, t.1))) (λ b. absurd (omega arith))
 
-pub accepted_literals : (o : List ℤ) → order_check o ≡ Ok tt → Literals o
-accepted_literals o e = let a = accepted_order o e in λ i h. a.1 i (omega (arith, h, a.0))
+pub no_other_literals : (o : List ℤ) → first_no_literal o ≡ length o → Literals o
+unfolding first_no_literal
+no_other_literals o e k b = (literal_iff (entry o k)).0 (not_fails (is_literal (entry o k)) (fails_before_first no_literal o k (pos 0) (omega (arith, e))))
 
 order_accepted : (o : List ℤ) → EachOnce o → order_check o ≡ Ok tt
 unfolding first_no_literal first_repeat

@@ -1,7 +1,7 @@
 // The order of trials: a list of 1,458 literals, each once.
-ghost use Rattle.std.specs.Prelude.{◌≡◌, Ok};
+ghost use Rattle.std.specs.Prelude.{◌≡◌, length};
 ghost use Rattle.clauses.specs.Literal.{Literal};
-ghost use Rattle.orders.specs.Order.{default_order, order_check};
+ghost use Rattle.orders.specs.Order.{default_order, first_no_literal, order_check};
 ghost use Rattle.orders.specs.Place.{table_place};
 
 use clauses::literal;
@@ -61,25 +61,22 @@ pub fn check_order(order: &[i16]) -> Result<(), Refusal>
     }
 }
 
-// An order of trials that its check accepts.
+// An order of trials: each of its entries is a literal.
 #[derive(Clone, Copy)]
 pub struct Order<'a> {
-    pub entries: &'a [i16; ENTRIES],
-    ghost accepted: { order_check entries.now ≡ Ok tt },
+    pub entries: &'a [i16],
+    ghost literals: { first_no_literal entries.now ≡ length entries.now },
 }
 
 impl<'a> Order<'a> {
     ghost use Rattle.orders.specs.Checked.{Checks};
 
-    // The entries as an order, or why they are none.
-    #[tactic(auto, using(crate::proofs::Orders::accepted_long))]
+    // The entries as an order, where the check accepts them.
+    #[tactic(auto, using(crate::proofs::Orders::accepted_no_other))]
     pub fn checked(entries: &'a [i16]) -> Result<Order<'a>, Refusal>
         ensures { Checks entries.now result }
     {
         check_order(entries)?;
-        let Ok(entries) = <&[i16; ENTRIES]>::try_from(entries) else {
-            return Err(Refusal::OrderLength);
-        };
         Ok(Order { entries })
     }
 }

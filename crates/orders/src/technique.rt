@@ -12,6 +12,7 @@ pub struct Technique {
     pub trials: bool,
 }
 
+// Each is a constant and a function: a function promises what it is, as a constant cannot.
 impl Technique {
     // 1: unit on clause set 1.
     pub const UNIT_MINIMAL: Technique = Technique {
@@ -58,7 +59,7 @@ impl Technique {
         Technique::TRIALS_EXTENDED
     }
 
-    // Its number, 1 to 4.
+    // Its number, 1 to 4. It is a method, since `u32::from` would not say which number.
     pub fn number(self) -> u32
         ensures { result ≡ number_of self }
     {

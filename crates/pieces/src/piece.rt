@@ -30,7 +30,7 @@ struct Found {
     order: Option<usize>,
 }
 
-// Where the bodies of a file begin, of which grid and technique must be there.
+// Where the bodies of a file begin, of which grid and technique must be there. They are places and not slices, as their definitions are.
 #[derive(Clone, Copy, Debug, PartialEq, Eq)]
 pub struct Bodies {
     pub grid: usize,

@@ -68,7 +68,7 @@ pub fn close_with(
     propagate(state, list, set)
 }
 
-// The unit closure of marks with one place more true: a contradiction where it is false.
+// The unit closure of marks with one place more true: a contradiction where it is false. Places are plain numbers, as they are computed.
 pub fn close_true(
     state: &mut State,
     list: &mut Worklist,

@@ -3,11 +3,12 @@
 // that is promised is that states which are refuted leave nothing.
 #![tactic(auto)]
 
-ghost use Rattle.std.specs.Prelude.{◌≡◌, true, List, ◌<◌, OnOk};
+ghost use Rattle.std.specs.Prelude.{◌≡◌, true, List, ◌<◌, OnOk, Err};
 ghost use Rattle.clauses.specs.declared.ClauseSet.TheVariants.{Extended};
 ghost use Rattle.propagation.specs.Steps.{Closed};
 ghost use Rattle.completions.specs.Left.{left};
 ghost use Rattle.branching.specs.Branching.{Refuted};
+ghost use Rattle.refutation.specs.declared.Unrefuted.TheVariants.{Spent};
 
 use branching::{Look, Test};
 use clauses::ClauseSet;
@@ -84,6 +85,20 @@ impl Attempt {
     }
 }
 
+// An attempt on a copy of a state, which takes its place where it has become that of a full grid.
+fn refute_copy(test: &mut Test, state: &mut State, look: Look, nodes: u32) -> Result<(), Unrefuted>
+    requires { Closed Extended state.old }
+    ensures { OnOk result (left state.old.marks ≡ List.[]) × (result ≡ Err Spent → state.new ≡ state.old) }
+{
+    let mut near = *state;
+    let mut attempt = Attempt { look, nodes };
+    let outcome = attempt.refute(test, &mut near);
+    if outcome == Err(Unrefuted::Full) {
+        *state = near;
+    }
+    outcome
+}
+
 // Whether the state is refuted by attempts that survey, each with twice the nodes of the one before and going by where that one failed, until
 // one is not spent. The state then becomes that of a full grid, where it is not refuted.
 fn refuted_by_surveys(test: &mut Test, state: &mut State) -> bool
@@ -91,19 +106,9 @@ fn refuted_by_surveys(test: &mut Test, state: &mut State) -> bool
     ensures { result ≡ true → left state.old.marks ≡ List.[] }
 {
     for doublings in 0..21u32 {
-        let mut near = *state;
-        let mut attempt = Attempt {
-            look: Look::Survey,
-            nodes: 12 << doublings,
-        };
-        match attempt.refute(test, &mut near) {
-            Ok(()) => {
-                return true;
-            }
-            Err(Unrefuted::Full) => {
-                *state = near;
-                return false;
-            }
+        match refute_copy(test, state, Look::Survey, 12 << doublings) {
+            Ok(()) => return true,
+            Err(Unrefuted::Full) => return false,
             Err(Unrefuted::Spent) => {}
         }
     }
@@ -119,17 +124,9 @@ pub fn refuted(test: &mut Test, state: &mut State) -> bool
     requires { Closed Extended state.old }
     ensures { result ≡ true → left state.old.marks ≡ List.[] }
 {
-    let mut near = *state;
-    let mut attempt = Attempt {
-        look: Look::Plain,
-        nodes: PLAIN,
-    };
-    match attempt.refute(test, &mut near) {
+    match refute_copy(test, state, Look::Plain, PLAIN) {
         Ok(()) => true,
-        Err(Unrefuted::Full) => {
-            *state = near;
-            false
-        }
+        Err(Unrefuted::Full) => false,
         Err(Unrefuted::Spent) => refuted_by_surveys(test, state),
     }
 }

@@ -9,7 +9,7 @@ ghost use Rattle.search.specs.Call.{search_call};
 use exploration::{Found, find};
 use grid::{Refusal, keyed};
 
-// The search call: 0, 1 or 2 for none, one or several completions.
+// The search call: 0, 1 or 2 for none, one or several completions, as hosts are told.
 #[tactic(auto, unfolding(crate::specs::Call::search_call))]
 pub fn search(grid: &[u8], first: &mut [u8], second: &mut [u8]) -> Result<u32, Refusal>
     ensures { (result, first.new, second.new) ≡ search_call grid.now first.old second.old }

@@ -48,7 +48,7 @@ pub enum Outcome {
 }
 
 impl Outcome {
-    // The number that hosts are told.
+    // The number that hosts are told. It is a method, since `u32::from` would not say which number.
     pub fn number(self) -> u32
         ensures { result ≡ outcome_number self }
     {
@@ -84,7 +84,8 @@ pub struct Ended {
     pub marks: [u8; 729],
 }
 
-// How far a job has come: its state, what is known to succeed there, and how many trials were made.
+// How far a job has come: its state, what is known to succeed there, and how many trials were made. A contradiction leaves it half closed, so that
+// each step asks that it walks.
 #[derive(Drop)]
 struct Progress<'a> {
     state: State,

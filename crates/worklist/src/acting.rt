@@ -35,7 +35,7 @@ impl Worklist {
         self.listed = 0;
     }
 
-    // The clause that was listed last, which is taken off.
+    // The clause that was listed last, which is taken off. What it asks follows from `Ready`, which each step asks anyway.
     pub fn pop(&mut self) -> Option<u16>
         requires { self.old.listed ≤ length self.old.numbers }
         ensures { Popped self.old self.new result }
@@ -49,7 +49,8 @@ impl Worklist {
     }
 }
 
-// The places that the pairs of the list would strike, each beside its pair.
+// The places that the pairs of the list would strike, each beside its pair and not with it, since the list has clause numbers alone. Fixed memory, as
+// the list's.
 #[derive(Drop)]
 struct Targets {
     places: [u16; 36],
@@ -82,6 +83,7 @@ impl Targets {
             let number = first + usize::from(table[row + k]);
             numbers[2916 + n] = number as u16;
             self.places[n] = q as u16;
+            // It is counted only where it may act, with no branch.
             n = if marks[q] == 0 { n + 1 } else { n };
         }
         self.count = n;
@@ -117,7 +119,9 @@ fn weight(mark: u8, p: usize) -> usize
 }
 
 // A mark for each variable, 0 undecided, 1 true, 2 false, the sum of each nine-literal clause, and how many variables are decided. Marks are bytes,
-// as hosts lend them. A contradiction leaves a state half closed, so that `Closed` is asked of it where it is needed, and is no invariant.
+// so that one `|` joins them to what is known. A contradiction leaves a state half closed, so that `Closed` is asked of it where it is needed, and is no
+// invariant. List and clause set stay beside it and not in it: a trial copies the state alone, and the list is lent to all of a job. Places are plain
+// numbers, as they are computed.
 #[derive(Clone, Copy)]
 pub struct State {
     pub marks: [u8; 729],
@@ -141,6 +145,7 @@ impl State {
             let sum = usize::from(self.sums[slot]) + weight(mark, p) - (1024 + p);
             self.sums[slot] = sum as u16;
             list.numbers[n] = kind.clause_at(p);
+            // It is counted only where it may act, with no branch.
             n = if sum < 2048 { n + 1 } else { n };
         }
         list.listed = n;

@@ -8,14 +8,14 @@ use Rattle.clauses.proofs.decode.place.Goals as goal
 
 pub overflow_mul-result-in-House : goal.overflow_mul-result-in-House
 overflow_mul-result-in-House c =
-    let small : (c.cell.result < 81) × (c.in-House.d < 9) = let g = subst IsGroup c.in-House.is c.requires.0 in
-    (omega (arith, c.cell.ensures, cell_below _ _ g.0 c.requires.1), g.1) in
+    let small : (c.house_cell.result < 81) × (c.in-House.d < 9) = let g = subst IsGroup c.in-House.is c.requires.0 in
+    (omega (arith, c.house_cell.ensures, cell_below _ _ g.0 c.requires.1), g.1) in
     omega (arith, small)
 
 pub overflow_add-result-in-House : goal.overflow_add-result-in-House
 overflow_add-result-in-House c =
-    let small : (c.cell.result < 81) × (c.in-House.d < 9) = let g = subst IsGroup c.in-House.is c.requires.0 in
-    (omega (arith, c.cell.ensures, cell_below _ _ g.0 c.requires.1), g.1) in
+    let small : (c.house_cell.result < 81) × (c.in-House.d < 9) = let g = subst IsGroup c.in-House.is c.requires.0 in
+    (omega (arith, c.house_cell.ensures, cell_below _ _ g.0 c.requires.1), g.1) in
     omega (arith, small)
 
 pub returns-in-Cell : goal.returns-in-Cell
@@ -25,6 +25,6 @@ returns-in-Cell c = (ap (λ g. place_of g c.args.k) (sym c.in-Cell.is), omega (a
 pub returns-in-House : goal.returns-in-House
 unfolding place_of
 returns-in-House c =
-    let small : (c.cell.result < 81) × (c.in-House.d < 9) = let g = subst IsGroup c.in-House.is c.requires.0 in
-    (omega (arith, c.cell.ensures, cell_below _ _ g.0 c.requires.1), g.1) in
-    (ap (λ x. 9 * x + c.in-House.d) c.cell.ensures ∙ ap (λ x. place_of x c.args.k) (sym c.in-House.is), omega (arith, small))
+    let small : (c.house_cell.result < 81) × (c.in-House.d < 9) = let g = subst IsGroup c.in-House.is c.requires.0 in
+    (omega (arith, c.house_cell.ensures, cell_below _ _ g.0 c.requires.1), g.1) in
+    (ap (λ x. 9 * x + c.in-House.d) c.house_cell.ensures ∙ ap (λ x. place_of x c.args.k) (sym c.in-House.is), omega (arith, small))

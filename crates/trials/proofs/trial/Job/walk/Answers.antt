@@ -14,7 +14,7 @@ use Rattle.trials.specs.Steps.{Stepped, Walked, ended_at, or_failed, walk_of}
 use Rattle.trials.specs.declared.trial.Job.{Job}
 use Rattle.trials.specs.declared.trial.Outcome.{Outcome}
 use Rattle.trials.specs.declared.trial.Progress.{Progress}
-use Rattle.orders.proofs.Orders.{accepted_long, accepted_literals}
+use Rattle.orders.proofs.Orders.{no_other_literals}
 use Rattle.trials.proofs.Walking.{onward, rest, rest_next, rest_end}
 use Rattle.trials.proofs.trial.Job.walk.Goals as goal
 
@@ -38,7 +38,7 @@ walked_err j p q o e (Err y) x = record { walk = ap (λ z. ended (ended_at z q.s
 pub next-requires : goal.next-requires
 next-requires c =
     let l = c.loop-literal in
-    (l.invariant.0, subst Literal (sym (read (get_or c.args.self.now.order.entries.now l.literal-index (pos 0)) (record { sfits = omega arith }))) (accepted_literals c.args.self.now.order.entries.now c.args.self.now.order.accepted l.literal-index (omega (arith, accepted_long c.args.self.now.order.entries.now c.args.self.now.order.accepted))))
+    (l.invariant.0, subst Literal (sym (read (get_or c.args.self.now.order.entries.now l.literal-index (pos 0)) (record { sfits = omega arith }))) (no_other_literals c.args.self.now.order.entries.now c.args.self.now.order.literals l.literal-index c.loop-literal-test.true))
 
 pub returns-in_err-failed : goal.returns-in_err-failed
 returns-in_err-failed c =
@@ -46,7 +46,7 @@ returns-in_err-failed c =
     let l = c.loop-literal in
     let q = c.next.new.progress in
     let e = read (get_or j.order.entries.now l.literal-index (pos 0)) (record { sfits = omega arith }) in
-    walked_err j c.args.progress.now q c.in_err-failed.field-0.0 (sym (rest_stepped j l.literal-index l.progress q (omega (arith, accepted_long j.order.entries.now j.order.accepted)) e c.in_err-failed.ensures l.failed) ∙ l.invariant.1)
+    walked_err j c.args.progress.now q c.in_err-failed.field-0.0 (sym (rest_stepped j l.literal-index l.progress q c.loop-literal-test.true e c.in_err-failed.ensures l.failed) ∙ l.invariant.1)
     c.from_residual.result c.from_residual.ensures.1
 
 pub loop-literal-preserved : goal.loop-literal-preserved
@@ -57,11 +57,11 @@ loop-literal-preserved c =
     let e = read (get_or j.order.entries.now l.literal-index (pos 0)) (record { sfits = omega arith }) in (
       c.in_ok-failed.ensures.walking,
       ap (rest_of j (l.literal-index + 1) q) (or_comm l.failed c.in_ok-failed.field-0)
-          ∙ sym (rest_stepped j l.literal-index l.progress q (omega (arith, accepted_long j.order.entries.now j.order.accepted)) e c.in_ok-failed.ensures l.failed) ∙ l.invariant.1,
+          ∙ sym (rest_stepped j l.literal-index l.progress q c.loop-literal-test.true e c.in_ok-failed.ensures l.failed) ∙ l.invariant.1,
     )
 
 pub returns : goal.returns
 returns c =
     let j = c.args.self.now in
     let l = c.loop-literal in
-    record { walk = rest_end (clauses_of j.set) j.ceiling j.order.entries.now l.literal-index l.progress.state.marks l.progress.count l.failed (omega (arith, accepted_long j.order.entries.now j.order.accepted)) ∙ l.invariant.1; walking = l.invariant.0 }
+    record { walk = rest_end (clauses_of j.set) j.ceiling j.order.entries.now l.literal-index l.progress.state.marks l.progress.count l.failed c.loop-literal-test.false ∙ l.invariant.1; walking = l.invariant.0 }
