@@ -39,7 +39,7 @@ fn check_lent(bytes: usize, marks: usize, numbers: usize) -> Result<(), Refusal>
 }
 
 // One job of a batch, in its part of the marks and of the answer list: it gets what the trials made before it left of the ceiling. The
-// trials made with it are given back.
+// trials made with it are given back. Marks and numbers stay slices, as hosts lend them.
 fn run_one(
     technique: Technique,
     grid: &[u8; 81],

@@ -98,7 +98,8 @@ pub enum Look {
     Survey,
 }
 
-// What a test of states works with: the list that is lent to the closures, and how often the test has failed at each place.
+// What a test of states works with: the list that is lent to the closures, and how often the test has failed at each place. Each step asks for a closed
+// state, as a contradiction leaves one half closed.
 #[derive(Drop)]
 pub struct Test {
     pub list: Worklist,

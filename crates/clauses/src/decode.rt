@@ -12,7 +12,7 @@ static PAIRS: [u8; 36] = [
     45, 46, 47, 48, 56, 57, 58, 67, 68, 78,
 ];
 
-// The k-th place of a group.
+// The k-th place of a group. Groups and places have plain numbers, as they are computed.
 pub fn place(group: Group, k: usize) -> usize
     requires { IsGroup group × (k < 9) }
     ensures { (result ≡ place_of group k) × (result < 729) }

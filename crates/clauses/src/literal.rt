@@ -33,7 +33,7 @@ pub fn mark_index(l: i16) -> usize
     magnitude(l).saturating_sub(1)
 }
 
-// The literal that makes the variable at a mark's place true.
+// The literal that makes the variable at a mark's place true. Places are plain numbers, as they are computed.
 pub fn positive(place: usize) -> i16
     requires { place < 729 }
     ensures { result ≡ pos (suc place) }

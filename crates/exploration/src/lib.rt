@@ -92,6 +92,7 @@ fn digits_in(marks: &[u8; 729]) -> [u8; 81]
 
 // What a search works with: the test of its states, and a guess, the marks that the test left last where it did not refute: a full grid, unless
 // the test was given up.
+// Each step asks for a closed state, as a contradiction leaves one half closed.
 #[derive(Drop)]
 struct Search {
     test: Test,

@@ -107,7 +107,7 @@ fn climb(grid: &[u8; 81], order: &Order, ceiling: u32, possible: &[u8; 729]) -> 
     }
 }
 
-// A grading that is not refused.
+// A grading that is not refused. The completion's buffer stays a slice, as hosts lend it.
 fn rate(grid: &[u8; 81], order: &Order, ceiling: u32, completion: &mut [u8]) -> Rating
     requires { length completion.old ≡ 81 }
     ensures { (Ok result, completion.new) ≡ grade_of grid.now order.now.entries.now ceiling }

@@ -162,7 +162,7 @@ static HOUSES: [[u8; 9]; 27] = [
     [60, 61, 62, 69, 70, 71, 78, 79, 80],
 ];
 
-// The k-th cell of a house.
+// The k-th cell of a house. Houses and cells are plain numbers, here and above, as they are computed.
 pub fn house_cell(house: usize, k: usize) -> usize
     requires { (house < 27) × (k < 9) }
     ensures { result ≡ cell_of house k }

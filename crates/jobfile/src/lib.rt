@@ -68,7 +68,7 @@ fn check_contents(grid: &[u8], technique: u32, order: &[i16]) -> Result<(), Refu
     check_order(order)
 }
 
-// What the bodies say, once the pieces are found: it is checked, and only then fills what is lent.
+// What the bodies say, once the pieces are found: it is checked, and only then fills what is lent, which stays slices, as hosts lend them.
 #[tactic(auto, unfolding(crate::specs::Call::read_bodies))]
 fn read_bodies(
     file: &[u8],

@@ -25,7 +25,7 @@ pub fn default_order() -> [i16; ENTRIES]
     order
 }
 
-// The place of a literal in a table of all: +v at 2 (v - 1), and -v after it.
+// The place of a literal in a table of all: +v at 2 (v - 1), and -v after it. Literals are plain numbers, as an order lends them.
 fn table_place(l: i16) -> usize
     requires { Literal l }
     ensures { result ≡ table_place l }

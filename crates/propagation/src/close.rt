@@ -48,7 +48,8 @@ fn propagate(state: &mut State, list: &mut Worklist, set: ClauseSet) -> Result<(
     Ok(())
 }
 
-// The unit closure of marks with one literal more, which they do not decide.
+// The unit closure of marks with one literal more, which they do not decide. That the state is closed is asked, and is no invariant of it: a contradiction
+// leaves it half closed. List and clause set stay beside it: a trial copies the state alone. Literals are plain numbers, as an order lends them.
 pub fn close_with(
     state: &mut State,
     list: &mut Worklist,

@@ -23,7 +23,8 @@ enum Unrefuted {
     Spent,
 }
 
-// An attempt to refute states: how it looks at them before a branch, and how many nodes it may still have.
+// An attempt to refute states: how it looks at them before a branch, and how many nodes it may still have. Each step asks for a closed state, as a
+// contradiction leaves one half closed. Places are plain numbers, as they are computed.
 #[derive(Drop)]
 struct Attempt {
     look: Look,
