@@ -1,5 +1,5 @@
 -- What the functions of a job's steps give back, in the terms of the steps themselves.
-use Rattle.std.specs.Prelude.{◌≡◌, Bool, true, false, ◌||◌, List, ℕ, ◌≤◌, ◌<◌, ℤ, pos, neg_ℤ, length, get_or, Result, Ok, Err, IfOk}
+use Rattle.std.specs.Prelude.{◌≡◌, Bool, true, false, ◌||◌, List, ℕ, ◌≤◌, ℤ, neg_ℤ, Result, Ok, Err, IfOk}
 use Rattle.clauses.specs.Clauses.{clauses_of}
 use Rattle.closure.specs.Marks.{mark}
 use Rattle.closure.specs.Propagation.{unit_closure}

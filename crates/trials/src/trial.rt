@@ -1,6 +1,6 @@
 // Trials along an order, in passes, under a ceiling. A trial is made on a copy of the state; the negation of a failed literal joins the state
 // itself. A trial whose success is known is only counted.
-ghost use Rattle.std.specs.Prelude.{◌≡◌, ℕ, ◌≤◌, ◌<◌, T, neg_ℤ, length, get_or, true};
+ghost use Rattle.std.specs.Prelude.{◌≡◌, ℕ, ◌≤◌, ◌<◌, T, neg_ℤ, get_or, true};
 ghost use Rattle.std.specs.Int.Bits.{bit_or};
 ghost use Rattle.clauses.specs.Literal.{Literal};
 ghost use Rattle.clauses.specs.Clauses.{clauses_of};
@@ -29,9 +29,7 @@ fn is_named(byte: u8, literal: i16) -> bool
 
 // What is marked is named too.
 fn note(known: &mut [u8; 729], marks: &[u8; 729])
-    requires { length known.old ≡ 729 }
-    ensures { (length known.new ≡ 729)
-        × ((p : ℕ) → p < 729 → get_or known.new p 0 ≡ bit_or (get_or known.old p 0) (get_or marks.now p 0)) }
+    ensures { (p : ℕ) → p < 729 → get_or known.new p 0 ≡ bit_or (get_or known.old p 0) (get_or marks.now p 0) }
 {
     for p in 0..729 {
         known[p] |= marks[p];

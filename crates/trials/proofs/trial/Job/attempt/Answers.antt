@@ -88,7 +88,7 @@ returns-in-Ok c =
       count = refl;
       walking = record {
         state = r.0.state;
-        known = known_noted s m c.close_with.new.state.marks l r.0.known v.state.marks.marks v.answer c.note.ensures.0 c.note.ensures.1;
+        known = known_noted s m c.close_with.new.state.marks l r.0.known v.state.marks.marks v.answer c.note.array_long c.note.ensures;
         possible = r.0.possible;
         within = r.0.within;
       };
