@@ -6,7 +6,7 @@
 #include <stdio.h>
 #include <string.h>
 
-/* Document 01's full grid. */
+/* The full grid G. */
 static const char full[] =
     "123456789456789123789123456231564897564897231897231564312645978645978312978312645";
 

@@ -5,7 +5,7 @@
 #include <stdio.h>
 #include <string.h>
 
-/* Document 002, figure 2. */
+/* AI Escargot, a hard published grid. */
 static const char sample[] =
     "100007090030020008009600500005300900010080002600004000300000010040000007007000300";
 

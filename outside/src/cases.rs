@@ -1,5 +1,5 @@
-//! Grids to compare on: those that document 01 names and generated ones with none, one or several
-//! completions. A small generator of random numbers makes every run the same.
+//! Grids to compare on: named ones, and generated ones with none, one or several completions. A
+//! small generator of random numbers makes every run the same.
 
 use crate::grid::{is_given, CELLS};
 use crate::order::default_order;
@@ -8,11 +8,11 @@ use std::sync::LazyLock;
 
 pub type Grid = [u8; CELLS];
 
-/// Document 01's full grid G.
+/// The full grid G.
 pub const G: &Grid =
     b"123456789456789123789123456231564897564897231897231564312645978645978312978312645";
 
-/// Document 002, figure 2.
+/// AI Escargot, a hard published grid.
 pub const AI_ESCARGOT: &Grid =
     b"100007090030020008009600500005300900010080002600004000300000010040000007007000300";
 
@@ -20,7 +20,7 @@ pub const AI_ESCARGOT: &Grid =
 pub const VERDICT_FOUR: &Grid =
     b"150006020800200010004000900500000402060000000042001690000403170000700009000680000";
 
-/// The rows of document 002's figure 5 that have 81 signs.
+/// The rows of figure 5, hard grids published after AI Escargot, that have 81 signs.
 pub const FIGURE_FIVE: [&Grid; 9] = [
     b"100007000020030500004900000008006001090000020700000300000001008030050060000400700",
     b"000001020300040500000600007002000006050030080400000900900002000080050400001700000",
@@ -42,7 +42,7 @@ pub fn with_givens(givens: &[(usize, usize, u8)]) -> Grid {
     grid
 }
 
-/// The grids of document 01's bench table, with a blank in G and the rows of figure 5.
+/// The grids of the bench table, with a blank in G and the rows of figure 5.
 pub fn named() -> Vec<Grid> {
     let mut one_blank = *G;
     one_blank[0] = b'.';

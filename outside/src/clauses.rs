@@ -1,4 +1,4 @@
-//! The clause families F1 to F9 by nested loops in document 01's index order, the two clause sets
+//! The clause families F1 to F9 by nested loops in the order of their indices, the two clause sets
 //! as vectors of them, and the clause call. A clause's number is its place in the vector, so equal
 //! clauses under two numbers both stay.
 

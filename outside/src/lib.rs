@@ -1,7 +1,7 @@
-//! An independent reference for the grader: document 01 written down from its text alone, as
+//! An independent reference for the grader: the buyer's scope written down from its text alone, as
 //! plainly as it can be run, so that the proved code can be compared with it case by case.
 //!
-//! What document 01 defines, in its order:
+//! What the scope defines, in its order:
 //! - [`grid`]: bytes, houses, givens, legal completions, the keyer's refusals;
 //! - [`clauses`]: families F1 to F9, the two clause sets, the clause call;
 //! - [`closure`]: marks and the unit closure;

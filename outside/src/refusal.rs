@@ -1,4 +1,4 @@
-//! A refusal: the number that document 01 lists and a zero-based place, 0 where none is named.
+//! A refusal: its number and a zero-based place, 0 where none is named.
 //! A refused call has changed no buffer.
 
 #[derive(Clone, Copy, Debug, PartialEq, Eq)]

@@ -1,5 +1,4 @@
-//! Document 01's bench table row by row, the published grids of document 002, and the example of
-//! `gradelist`.
+//! The bench table row by row, the published grids, and the example of `gradelist`.
 
 use reference::cases::{with_givens, Grid, AI_ESCARGOT, FIGURE_FIVE, G};
 use reference::closure::Marks;

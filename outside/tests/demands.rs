@@ -1,6 +1,6 @@
-//! The customer's second and third demands on generated grids: jobs are their closures whatever
-//! the order, marks and verdicts only grow with givens and techniques, and no count passes the
-//! bound.
+//! What answers mean, and what more givens and stronger rules may change, on generated grids: jobs
+//! are their closures whatever the order, marks and verdicts only grow with givens and techniques,
+//! and no count passes the bound.
 
 use reference::cases::{Grid, Random, AI_ESCARGOT};
 use reference::clauses::clause_set;

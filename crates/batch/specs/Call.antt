@@ -35,7 +35,7 @@ grid_at g i = take 81 (drop (81 * i) g)
 abbrev pub job_end_of : Technique → List ℤ → List ℕ → ℕ → End
 job_end_of t o g c = job_end (clauses_of t.set) c t.trials o (givens g)
 
--- what the answer list says of a job: 01's number of its outcome, and its count
+-- what the answer list says of a job: the number of its outcome, and its count
 abbrev pub numbers_of : End → List ℕ
 numbers_of e = outcome_of e ∷ count_of e ∷ []
 

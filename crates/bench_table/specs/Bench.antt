@@ -1,4 +1,4 @@
--- The cases marked * of document 01's bench table, as one list of rows: a job, and what is expected of its end.
+-- The jobs of the bench table, as one list of rows: a job, and what is expected of its end.
 use Rattle.std.specs.Prelude.{◌≡◌, Bool, true, false, ℕ, ◌+◌, ◌*◌, ◌-◌, get_or, replicate, set}
 use mathlib.Core.List.{List, [], ◌∷◌, ◌++◌, Memᴰ}
 use Rattle.grid.specs.Examples.{G}
@@ -24,7 +24,7 @@ MarksAre (deciding n) m = decided m ≡ n
 MarksAre (having k b) m = get_or m k 0 ≡ b
 MarksAre zeros m = m ≡ blank
 
--- a row: the grid, the technique by its set and its trials, the ceiling; and what is expected: 01's outcome, the count, the marks
+-- a row: the grid, the technique by its set and its trials, the ceiling; and what is expected: the outcome's number, the count, the marks
 pub record Row : Type 0 where
   pub grid : List ℕ
   pub set : ClauseSet
@@ -100,7 +100,7 @@ unit_row set grid outcome marks = record {
   marks = marks;
 }
 
--- The rows, a list for each line of 01's table, with outcomes 1 solved, 2 open, 3 stopped, 4 contradiction.
+-- The rows, a list for each line of the table, with outcomes 1 solved, 2 open, 3 stopped, 4 contradiction.
 
 -- stopped at each ceiling below 1,458, the trials of one pass in which none fails
 abbrev pub blank_rows : List Row

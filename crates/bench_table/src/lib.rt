@@ -1,2 +1,2 @@
-// Document 01's bench table: its cases marked *, shown of the definitions. There is no code here.
+// The bench table: its jobs, shown of the definitions. There is no code here.
 #![tactic(auto)]

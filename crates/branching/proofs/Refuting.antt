@@ -47,19 +47,19 @@ module _ (m : List ℕ) (i : IsMarks m) (p : ℕ) where
       let g = (closed_fits (With (has m) (pos (suc p))) s b).0 ((with_fits m (pos (suc p)) b).1 (f, y)) in
       Memᴰ.not-nil (subst (Memᴰ b) e (((left_in_order st.marks s.state.marks.marks).members b).1 g))
 
+-- a place that was not true decides a variable more
+pub closed_more : (st : State) {st' : State} (p : ℕ) → ComesTo Extended (With (has st.marks) (pos (suc p))) (Ok st') → p < 729 → (get_or st.marks p 0 ≡ 1 → ⊥) → st.decided < st'.decided
+closed_more st {st'} p s h n =
+    omega (
+      arith,
+      st.counted,
+      st'.counted,
+      decided_grows st.marks st'.marks (λ l y. s.answer.holds l (inl y)) (pos (suc p)) h (s.answer.holds (pos (suc p)) (inr refl)) (λ y. n (byte_true st.marks p y)),
+    )
+
 module _ (st : State) (i : Closed Extended st) where
   abbrev m : List ℕ
   m = st.marks
-
-  -- a place that was not true decides a variable more
-  pub closed_more : {st' : State} (p : ℕ) → ComesTo Extended (With (has m) (pos (suc p))) (Ok st') → p < 729 → (get_or m p 0 ≡ 1 → ⊥) → st.decided < st'.decided
-  closed_more {st'} p s h n =
-      omega (
-        arith,
-        i.count,
-        s.state.count,
-        decided_grows m st'.marks (λ l y. s.answer.holds l (inl y)) (pos (suc p)) h (s.answer.holds (pos (suc p)) (inr refl)) (λ y. n (byte_true m p y)),
-      )
 
   -- a place that is refuted becomes false
   module _ (p : ℕ) (r : Refuted m p) where
@@ -71,7 +71,7 @@ module _ (st : State) (i : Closed Extended st) where
     struck_weighs st' (Ok u) s =
         record {
           state = s.state;
-          more = omega (arith, i.count, s.state.count, decided_rises m st'.marks (λ l y. s.answer.holds l (inl y)));
+          more = omega (arith, st.counted, st'.counted, decided_rises m st'.marks (λ l y. s.answer.holds l (inl y)));
           same =
               in_order_same (Fits (Of m)) (Fits (Of st'.marks)) (left m) (left st'.marks) (left_in_order m i.marks.marks) (left_in_order st'.marks s.state.marks.marks)
               (λ b. let q = closed_fits (With (has m) (negsuc p)) s b in ((λ f. q.0 (struck b f)), λ f. ((with_fits m (negsuc p) b).0 (q.1 f)).0));

@@ -90,14 +90,6 @@ fn counted(failures: u32) -> u32 {
     }
 }
 
-// How an attempt looks at a state before a branch: a plain one only for the cell with the fewest digits left. It is no closure: the clauses of one
-// would stand in both functions of an attempt, which call one another.
-#[derive(Clone, Copy)]
-pub enum Look {
-    Plain,
-    Survey,
-}
-
 // What a test of states works with: the list that is lent to the closures, and how often the test has failed at each place. Each step asks for a closed
 // state, as a contradiction leaves one half closed.
 #[derive(Drop)]
@@ -247,16 +239,32 @@ impl Test {
         self.weigh(state, &mut weights)?;
         Ok(self.lightest(&state.marks, &weights))
     }
+}
 
-    // What is found of a state before a branch: a clash where it leaves nothing; no group where it has become that of a full grid; else the group to
-    // branch on.
-    pub fn look(&mut self, state: &mut State, look: Look) -> Result<Option<Group>, Clash>
+// How an attempt looks at a state before a branch.
+pub trait Look: Drop {
+    // What is found of the state: a clash where it leaves nothing; no group where it has become that of a full grid; else the group to branch on.
+    fn look(&self, test: &mut Test, state: &mut State) -> Result<Option<Group>, Clash>
         requires { Closed Extended state.old }
-        ensures { LooksTo state.old state.new result }
-    {
-        match look {
-            Look::Plain => Ok(narrowest(&state.marks).map(Group::Cell)),
-            Look::Survey => self.survey(state),
-        }
+        ensures { LooksTo state.old state.new result };
+}
+
+// Only for the cell with the fewest digits left.
+#[derive(Drop)]
+pub struct Plain;
+
+impl Look for Plain {
+    fn look(&self, _test: &mut Test, state: &mut State) -> Result<Option<Group>, Clash> {
+        Ok(narrowest(&state.marks).map(Group::Cell))
+    }
+}
+
+// By a survey.
+#[derive(Drop)]
+pub struct Survey;
+
+impl Look for Survey {
+    fn look(&self, test: &mut Test, state: &mut State) -> Result<Option<Group>, Clash> {
+        test.survey(state)
     }
 }

@@ -1,5 +1,4 @@
 pub mod Families
-pub mod Filling
 pub mod Members
 pub mod ModelsAreCompletions
 pub mod Numbers

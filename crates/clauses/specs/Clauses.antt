@@ -1,4 +1,4 @@
--- Variables and the two clause sets, family by family F1 to F9, in document 01's index order.
+-- Variables and the two clause sets, family by family F1 to F9, each in the order of its indices.
 use Rattle.std.specs.Prelude.{List, [], ◌∷◌, ◌++◌, map, ℕ, zero, suc, ◌+◌, ◌*◌, ◌-◌, ℤ, pos, negsuc}
 use Rattle.clauses.specs.declared.ClauseSet.{ClauseSet}
 use Rattle.clauses.specs.declared.ClauseSet.TheVariants.{Minimal, Extended}

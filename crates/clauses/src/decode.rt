@@ -1,9 +1,10 @@
 // The shape of a clause, by arithmetic on its number, and its literals.
-ghost use Rattle.std.specs.Prelude.{◌≡◌, ◌<◌, ◌∷◌, [], negsuc, length};
+ghost use Rattle.std.specs.Prelude.{◌≡◌, ◌<◌, length};
 ghost use Rattle.clauses.specs.Call.{padded};
 ghost use Rattle.clauses.specs.Shape.{place_of, IsGroup, IsShape, clause_of, shape_of, pair_of, row_pair, rows_pair, column_of, row_of, box_of};
 
-use crate::{Group, Shape, literal};
+use crate::literal::{negative, positive};
+use crate::{Group, Shape};
 use grid::house_cell;
 
 // The pairs of places of a group, i below j, in index order: 10 i + j.
@@ -110,33 +111,17 @@ pub(crate) fn length_of(shape: Shape) -> usize
     }
 }
 
-// The literals of a whole group. The nine that are lent stay a slice, as hosts lend them.
-fn fill_group(group: Group, out: &mut [i16])
-    requires { IsGroup group × (length out.old ≡ 9) }
-    ensures { out.new ≡ padded (clause_of (Shape.OneOf group)) }
-{
-    for k in 0..9 {
-        out[k] = literal::positive(place(group, k));
-    }
-}
-
-// The negative literals of two places, then zeros.
-fn fill_pair(first: usize, second: usize, out: &mut [i16])
-    requires { (first < 729) × (second < 729) × (length out.old ≡ 9) }
-    ensures { out.new ≡ padded (negsuc first ∷ negsuc second ∷ []) }
-{
-    let both = [literal::negative(first), literal::negative(second)];
-    out[..2].copy_from_slice(&both);
-    out[2..].fill(0);
-}
-
 // The literals of a clause, then zeros.
-pub(crate) fn fill(shape: Shape, out: &mut [i16])
-    requires { IsShape shape × (length out.old ≡ 9) }
-    ensures { out.new ≡ padded (clause_of shape) }
+pub(crate) fn literals_of(shape: Shape) -> [i16; 9]
+    requires { IsShape shape }
+    ensures { result ≡ padded (clause_of shape) }
 {
     match shape {
-        Shape::OneOf(g) => fill_group(g, out),
-        Shape::NotBoth(g, i, j) => fill_pair(place(g, i), place(g, j), out),
+        Shape::OneOf(g) => std::array::from_fn(|k| positive(place(g, k))),
+        Shape::NotBoth(g, i, j) => {
+            let first = negative(place(g, i));
+            let second = negative(place(g, j));
+            [first, second, 0, 0, 0, 0, 0, 0, 0]
+        }
     }
 }

@@ -14,7 +14,7 @@ ghost use Rattle.clauses.specs.Call.{set_of, clause_given, clause_call};
 
 use grid::Refusal;
 
-// The clause sets of document 01: 1 is minimal, 2 is extended.
+// The two clause sets: 1 is minimal, 2 is extended.
 #[derive(Clone, Copy, Debug, PartialEq, Eq)]
 pub enum ClauseSet {
     Minimal,
@@ -71,7 +71,7 @@ fn clause_of(set: ClauseSet, n: usize, out: &mut [i16]) -> Result<usize, Refusal
         return Err(Refusal::LiteralsLength);
     }
     let s = decode::shape(n);
-    decode::fill(s, out);
+    out.copy_from_slice(&decode::literals_of(s));
     Ok(decode::length_of(s))
 }
 

@@ -15,8 +15,7 @@ pub fn magnitude(l: i16) -> usize
 pub fn is_literal(l: i16) -> bool
     ensures { result ≡ is_literal l }
 {
-    let m = magnitude(l);
-    1 <= m && m <= 729
+    l != 0 && -729 <= l && l <= 729
 }
 
 // The negation of a literal; 0 for what is none. 0 is no literal and is its own negation, so an Option would tell nothing more.

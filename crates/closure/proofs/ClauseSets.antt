@@ -4,7 +4,7 @@ use mathlib.Core.Path.{◌≡◌, refl, sym, subst, ◌∙◌}
 use mathlib.Core.Logic.{⊎_elim}
 use mathlib.Core.List.Memᴰ
 use mathlib.Core.List.{◌∷◌, []}
-use Prim.Native.Nat.{ℕ, zero, suc, ◌+◌, ◌<◌}
+use Prim.Native.Nat.{ℕ, zero, suc, ◌<◌}
 use native.Mathlib.Omega.{arith}
 use lib.IntN.{ℤ, pos, negsuc}
 use Rattle.grid.specs.House.{cell_of}
@@ -17,7 +17,7 @@ use Rattle.clauses.specs.declared.Group.{Group}
 use Rattle.clauses.specs.declared.Group.TheVariants.{Cell, House}
 use Rattle.clauses.specs.declared.Shape.{Shape}
 use Rattle.clauses.specs.declared.Shape.TheVariants.{OneOf, NotBoth}
-use Rattle.clauses.proofs.Filling.{map_at}
+use Rattle.std.proofs.lemmas.List.FromFn.{get_or-map-range_with_len}
 use Rattle.clauses.proofs.Members.{over_iff, member_iff}
 use Rattle.closure.proofs.Clauses.{NoneTwice, WellMade, WellFormed}
 
@@ -54,8 +54,8 @@ shape_made (OneOf g) h =
           let w = (over_iff 0 9 (λ k. f k ∷ []) l).0 m in
           subst Literal (sym (Memᴰ.eq_of_singleton w.3)) (place_below g h w.0 w.2));
       once = λ i j a b e. (
-          let same : f (0 + i) ≡ f (0 + j) = sym (map_at f 0 9 i (omega arith)) ∙ e ∙ map_at f 0 9 j b in
-          place_once g h (0 + i) (0 + j) (omega arith) (omega arith) (cc));
+          let same : f i ≡ f j = sym (get_or-map-range_with_len f 0 9 i i (pos 0) (omega arith) (omega arith)) ∙ e ∙ get_or-map-range_with_len f 0 9 j j (pos 0) b (omega arith) in
+          place_once g h i j (omega arith) (omega arith) (cc));
     }
 shape_made (NotBoth g x y) h = record {
   some = (negsuc (place_of g x), Memᴰ.head refl);

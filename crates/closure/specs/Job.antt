@@ -1,4 +1,4 @@
--- The steps of a job, as document 01 lists them: the unit closure of the givens, then trials along the order in passes, under a ceiling.
+-- The steps of a job, in their order: the unit closure of the givens, then trials along the order in passes, under a ceiling.
 use Rattle.std.specs.Prelude.{◌≡◌, Bool, true, false, List, [], ◌∷◌, ℕ, zero, suc, ◌+◌, ◌<◌, eqb, ℤ, neg_ℤ}
 use Rattle.clauses.specs.Clauses.{Clause}
 use Rattle.closure.specs.Sets.{LiteralSet, Within, Least, IsLeast}
@@ -114,7 +114,7 @@ marks_of (opened m n) = m
 marks_of (stopped m n) = m
 marks_of (contradiction n) = blank
 
--- 01's outcome: 1 solved, 2 open, 3 stopped, 4 contradiction
+-- the outcome's number: 1 solved, 2 open, 3 stopped, 4 contradiction
 abbrev pub outcome_of : End → ℕ
 outcome_of (solved m n) = 1
 outcome_of (opened m n) = 2

@@ -48,15 +48,6 @@ fn unions_in(marks: &[u8; 729], house: usize) -> [u16; 512]
     unions
 }
 
-// How many bits each number has, made once for all houses: of the digits of a choice and of the choice itself, so that it is no part of either.
-fn bit_counts() -> [u32; 512] {
-    let mut counts = [0u32; 512];
-    for (n, count) in counts.iter_mut().enumerate() {
-        *count = n.count_ones();
-    }
-    counts
-}
-
 // The bits of a number, one by one.
 fn bits_of(n: usize) -> [bool; 9] {
     std::array::from_fn(|k| n >> k & 1 == 1)
@@ -70,14 +61,17 @@ struct Choice {
 }
 
 // A choice of cells with fewer digits than cells.
-fn crowd(marks: &[u8; 729], counts: &[u32; 512], house: usize) -> Option<Choice>
+fn crowd(marks: &[u8; 729], house: usize) -> Option<Choice>
     requires { house < 27 }
 {
     let unions = unions_in(marks, house);
-    let n = (0..512).find(|n| counts[usize::from(unions[*n]) % 512] < counts[*n])?;
+    let (n, digits) = unions
+        .iter()
+        .enumerate()
+        .find(|(n, digits)| digits.count_ones() < n.count_ones())?;
     Some(Choice {
         cells: bits_of(n),
-        digits: bits_of(usize::from(unions[n])),
+        digits: bits_of(usize::from(*digits)),
     })
 }
 
@@ -101,11 +95,11 @@ fn confined(marks: &[u8; 729], house: usize, choice: &Choice) -> bool
 }
 
 // Whether a house is found to be crowded.
-fn crowded_in(marks: &[u8; 729], counts: &[u32; 512], house: usize) -> bool
+fn crowded_in(marks: &[u8; 729], house: usize) -> bool
     requires { IsMarks marks.now × (house < 27) }
     ensures { result ≡ true → left marks.now ≡ List.[] }
 {
-    match crowd(marks, counts, house) {
+    match crowd(marks, house) {
         Some(choice) => count(&choice.digits) < count(&choice.cells)
             && confined(marks, house, &choice),
         None => false,
@@ -117,6 +111,5 @@ pub fn crowded(marks: &[u8; 729]) -> bool
     requires { IsMarks marks.now }
     ensures { result ≡ true → left marks.now ≡ List.[] }
 {
-    let counts = bit_counts();
-    (0..27).any(|house| crowded_in(marks, &counts, house))
+    (0..27).any(|house| crowded_in(marks, house))
 }

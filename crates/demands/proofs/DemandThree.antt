@@ -1,4 +1,4 @@
--- Demand 3 of document 00, whole.
+-- What more givens and stronger rules may change, whole.
 -- Assumes nothing.
 use Rattle.demands.specs.DemandThree.{DemandThree}
 use Rattle.demands.proofs.JobsCompared.{of_jobs}

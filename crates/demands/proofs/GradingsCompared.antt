@@ -1,4 +1,4 @@
--- Demand 3 of two gradings. What completes the second grid completes the first, so both have the same one completion. A technique that
+-- Two gradings compared. What completes the second grid completes the first, so both have the same one completion. A technique that
 -- solves the first is not stopped in the second, and then solves it too: all that the first has marked is marked in the second.
 -- Assumes nothing.
 use mathlib.Core.Path.{◌≡◌, refl, ap, sym, subst, ◌∙◌}

@@ -1,4 +1,4 @@
--- Demand 3 of two jobs. The second has stronger rules and every given of the first, so its closure has all that the first has marked, and
+-- Two jobs compared. The second has stronger rules and every given of the first, so its closure has all that the first has marked, and
 -- a job that is not stopped gives back its closure, whatever the orders and ceilings. A mark is then the same since it is 1 or 2 where it
 -- is not 0.
 -- Assumes nothing.

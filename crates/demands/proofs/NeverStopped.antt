@@ -42,7 +42,7 @@ use Rattle.demands.proofs.Jobs.{unit_end}
 use Rattle.demands.proofs.GradeCalls.{call_graded}
 use Rattle.demands.proofs.GradingsCompared.{number_low, verdict_in, legal_carries, Gave, gave_by}
 
--- document 01's full grid with its upper three rows below the others
+-- the full grid G with its upper three rows below the others
 another : List ℕ
 another = drop 27 G ++ take 27 G
 

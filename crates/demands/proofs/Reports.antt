@@ -49,6 +49,6 @@ reports_list g (x ∷ y ∷ bs) i =
       );
     }
 
--- Demand 2: the search reports none, one or several exactly as they exist.
+-- The search reports none, one or several exactly as they exist.
 pub reports : (g : List ℕ) → Reports g (found_of (completions g))
 reports g = reports_list g (completions g) (completions_in_order g)

@@ -1,4 +1,4 @@
--- Demand 3 of document 00, whole.
+-- What more givens and stronger rules may change, whole.
 use Rattle.std.specs.Prelude.{◌≡◌, ◌⊎◌, List, ℕ, ◌≤◌, ◌<◌, T}
 use Rattle.grid.specs.Grid.{byte, is_digit}
 use Rattle.grid.specs.Completion.{Legal}

@@ -48,17 +48,11 @@ fn followed(found: Found, more: Found) -> Found
 }
 
 // Whether a cell has no digit yet.
-#[tactic(auto, using(grid::proofs::Counting::one_fails), unfolding(grid::specs::Counting::all, crate::specs::Search::is_open))]
 fn is_open(marks: &[u8; 729], cell: usize) -> bool
     requires { cell < 81 }
     ensures { result ≡ is_open marks.now cell }
 {
-    for d in 0..9 {
-        if marks[9 * cell + d] == 1 {
-            return false;
-        }
-    }
-    true
+    (0..9).all(|d| marks[9 * cell + d] != 1)
 }
 
 // The first open cell, unless all have digits.

@@ -5,7 +5,8 @@
 //     Verdict    how a grading ends, and with how many trials, a Rating
 #![tactic(auto)]
 
-ghost use Rattle.std.specs.Prelude.{◌≡◌, length, Ok};
+ghost use Rattle.std.specs.Prelude.{◌≡◌, cond, suc, ◌<◌, length, Ok};
+ghost use Rattle.clauses.specs.Models.{truth_of};
 ghost use Rattle.trials.specs.Known.{CompletionOk};
 ghost use Rattle.grading.specs.Grade.{number_of, ladder, rate_from, MarksOf, grade_of, grade_call};
 
@@ -61,17 +62,23 @@ fn ladder() -> [Technique; 4]
     ]
 }
 
-// The marks of a completion: its digits are true, and all others false.
+// The mark of a place of a completion: its digits are true, and all others false.
+fn mark_of(completion: &[u8; 81], p: usize) -> u8
+    requires { p < 729 }
+    ensures { result ≡ cond (truth_of completion.now (suc p)) 1 2 }
+{
+    if completion[p / 9] == b'1' + (p % 9) as u8 {
+        1
+    } else {
+        2
+    }
+}
+
+// The marks of a completion.
 fn marks_of(completion: &[u8; 81]) -> [u8; 729]
     ensures { MarksOf completion.now result }
 {
-    let mut marks = [2u8; 729];
-    for p in 0..729 {
-        if completion[p / 9] == 49 + (p % 9) as u8 {
-            marks[p] = 1;
-        }
-    }
-    marks
+    std::array::from_fn(|p| mark_of(completion, p))
 }
 
 // The rating of a grid with one completion, whose literals are known to succeed: each technique gets what the earlier ones left of the ceiling.

@@ -3,14 +3,20 @@
 -- Assumes nothing.
 use mathlib.Core.Path.{◌≡◌, refl, ap, sym, ◌∙◌, subst}
 use mathlib.Core.Logic.{◌↔◌}
-use mathlib.Core.Bool.{Bool, true, false}
+use mathlib.Core.Bool.{Bool, true, false, ◌&&◌}
+use mathlib.Core.List.{List, ◌∷◌, [], ◌++◌}
 use Prim.Native.Nat.{ℕ, zero, suc, ◌+◌, ◌≤◌, ◌<◌}
 use native.Mathlib.Decide.{ℕ_discrete, dec_lt}
+use native.Mathlib.Nat.{zero-add}
 use native.Mathlib.Omega.{arith}
 use native.Mathlib.Numerals.{add-one}
 use lib.Dec.{T}
+use lib.ListN.{length, get_or}
+use Rattle.std.specs.List.{list_all, range_with_len}
+use Rattle.std.proofs.lemmas.List.Folds.{list_all-append, list_all-map}
+use Rattle.std.proofs.lemmas.List.FromFn.{fill_by_all}
 use Rattle.grid.specs.Counting.{tick, total, tally, all}
-use Rattle.grid.proofs.Table.{and_iff, false_is}
+use Rattle.grid.proofs.Table.{and_iff}
 
 -- a number below suc n is n or below n
 last : {P : ℕ → Type 0} (n : ℕ) → P n → ((k : ℕ) → k < n → P k) → (k : ℕ) → k < suc n → P k
@@ -28,25 +34,36 @@ all_iff (suc n) p =
     let c = and_iff (p n) (all n p) in
     ((λ x. last {P = λ k. T (p k)} n (c.0 x).0 (r.0 (c.0 x).1)), λ x. c.1 (x n (omega arith), r.1 (λ k h. x k (omega arith))))
 
-module _ (p : ℕ → Bool) (n : ℕ) where
-  -- a scan of the numbers below n has come to k: all before k pass the test
-  abbrev pub Passed : ℕ → Type 0
-  Passed k = (k ≤ n) × (all k p ≡ true)
+-- one number more comes last
+last_of : (a n : ℕ) → range_with_len a (suc n) ≡ range_with_len a n ++ (a + n) ∷ []
+last_of a zero = grind arith
+last_of a (suc n) =
+    let e : a + 1 + n ≡ a + suc n = omega arith in
+    rw (last_of (a + 1) n, e)
 
-  pub passed_none : Passed 0
-  unfolding all
-  passed_none = (omega arith, refl)
+-- each number of a range from 0 on passes, where each below its end does
+pub all_of : (p : ℕ → Bool) (n : ℕ) → list_all p (range_with_len 0 n) ≡ all n p
+unfolding all
+all_of p zero = refl
+all_of p (suc n) =
+    ap (list_all p) (last_of 0 n) ∙ list_all-append p (range_with_len 0 n) ((0 + n) ∷ []) ∙ rw (zero-add n, all_of p n) (one (all n p) (p n))
+  where
+    one : (a b : Bool) → (a && (b && true)) ≡ (b && a)
+    one true true = refl
+    one true false = refl
+    one false true = refl
+    one false false = refl
 
-  module _ (k : ℕ) where
-    pub passed_more : Passed k → k < n → p k ≡ true → Passed (k + 1)
-    unfolding all
-    passed_more s h t = (omega arith, rw (add-one k, t) s.1)
+-- each of a list passes, where that at each place does
+pub all_in : (p : ℕ → Bool) (l : List ℕ) (n : ℕ) → length l ≡ n → list_all p l ≡ all n (λ k. p (get_or l k 0))
+all_in p l n e =
+    let f : ℕ → ℕ = λ k. get_or l k 0 in
+    ap (list_all p) (fill_by_all f l n 0 e (λ k h. refl)) ∙ list_all-map p f (range_with_len 0 n) ∙ all_of (λ k. p (f k)) n
 
-    pub passed_all : Passed k → n ≤ k → true ≡ all n p
-    passed_all s h = let e : k ≡ n = omega arith in subst (λ m. true ≡ all m p) e (sym s.1)
-
-    pub one_fails : k < n → p k ≡ false → false ≡ all n p
-    one_fails h e = sym (false_is (all n p) (λ t. subst T e ((all_iff n p).0 t k h)))
+pub all_same : (n : ℕ) (p q : ℕ → Bool) → ((k : ℕ) → k < n → p k ≡ q k) → all n p ≡ all n q
+unfolding all
+all_same zero p q h = refl
+all_same (suc n) p q h = rw (h n (omega arith), all_same n p q (λ k b. h k (omega arith)))
 
 pub total_same : (n : ℕ) (f g : ℕ → ℕ) → ((k : ℕ) → k < n → f k ≡ g k) → total n f ≡ total n g
 unfolding total

@@ -1,4 +1,4 @@
--- The definition of a legal completion on document 01's full grid G: cases that are computed.
+-- The definition of a legal completion on the full grid G: cases that are computed.
 -- Assumes nothing.
 use mathlib.Core.Path.{◌≡◌, refl}
 use mathlib.Core.Bool.{true, false}

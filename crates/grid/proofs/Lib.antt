@@ -1,6 +1,7 @@
 pub mod Table
 pub mod Counting
 pub mod Least
+pub mod Made
 pub mod House
 pub mod Completion
 mod Examples

@@ -1,4 +1,4 @@
--- Document 01's full grid G.
+-- The full grid G.
 use Rattle.std.specs.Prelude.{List, [], ◌∷◌, ℕ}
 
 -- its 81 bytes, row by row

@@ -24,15 +24,7 @@ pub fn is_digit(b: u8) -> bool
 fn is_full(candidate: &[u8]) -> bool
     ensures { result ≡ is_full candidate.now }
 {
-    if candidate.len() != 81 {
-        return false;
-    }
-    for cell in 0..81 {
-        if !is_digit(candidate[cell]) {
-            return false;
-        }
-    }
-    true
+    candidate.len() == 81 && candidate.iter().all(|b| is_digit(*b))
 }
 
 // Whether a cell keeps its given, if it has one.
@@ -47,12 +39,7 @@ fn keeps_givens(grid: &[u8], candidate: &[u8]) -> bool
     requires { (length grid.now ≡ 81) × (length candidate.now ≡ 81) }
     ensures { result ≡ keeps_givens grid.now candidate.now }
 {
-    for cell in 0..81 {
-        if !keeps_given(grid[cell], candidate[cell]) {
-            return false;
-        }
-    }
-    true
+    (0..81).all(|cell| keeps_given(grid[cell], candidate[cell]))
 }
 
 // How often each digit stands in a house, digit d + 1 at place d. What is asked of the candidate the test has shown before: a type for that would
@@ -75,13 +62,9 @@ fn house_once(candidate: &[u8], house: usize) -> bool
     requires { (is_full candidate.now ≡ true) × (house < 27) }
     ensures { result ≡ all 9 (λ d. eqb (times candidate.now house d) 1) }
 {
-    let counts = count_digits(candidate, house);
-    for d in 0..9 {
-        if counts[d] != 1 {
-            return false;
-        }
-    }
-    true
+    count_digits(candidate, house)
+        .iter()
+        .all(|count| *count == 1)
 }
 
 // Whether each digit stands once in each house.
@@ -89,26 +72,13 @@ fn each_once(candidate: &[u8]) -> bool
     requires { is_full candidate.now ≡ true }
     ensures { result ≡ each_once candidate.now }
 {
-    for house in 0..27 {
-        if !house_once(candidate, house) {
-            return false;
-        }
-    }
-    true
+    (0..27).all(|house| house_once(candidate, house))
 }
 
 // Whether the candidate is a legal completion of the grid: false where either is not well formed.
+#[tactic(auto, using(crate::proofs::Completion::grid_long, crate::proofs::Completion::full_long), unfolding(crate::specs::Completion::is_completion, crate::specs::Completion::is_legal))]
 pub fn is_completion(grid: &[u8], candidate: &[u8]) -> bool
     ensures { result ≡ is_completion grid.now candidate.now }
 {
-    if !is_grid(grid) {
-        return false;
-    }
-    if !is_full(candidate) {
-        return false;
-    }
-    if !keeps_givens(grid, candidate) {
-        return false;
-    }
-    each_once(candidate)
+    is_grid(grid) && is_full(candidate) && keeps_givens(grid, candidate) && each_once(candidate)
 }

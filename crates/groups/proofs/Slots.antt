@@ -9,6 +9,8 @@ use native.Mathlib.Decide.{dec_lt}
 use native.Mathlib.Omega.{arith}
 use borrow.Author.Tests.{lt-ltb, le-ltb}
 use lib.Dec.{T, eqb, ltb, eqb→eq, ltb→lt}
+use mathlib.Core.List.{List}
+use lib.ListN.{length, get_or}
 use Rattle.grid.specs.Counting.{all}
 use Rattle.grid.specs.House.{cell_of}
 use Rattle.grid.proofs.Table.{and_iff}
@@ -21,7 +23,7 @@ use Rattle.clauses.specs.declared.Group.{Group}
 use Rattle.clauses.specs.declared.Group.TheVariants as group
 use Rattle.clauses.specs.declared.Shape.TheVariants.{OneOf, NotBoth}
 use Rattle.clauses.proofs.ShapeNumber.{same_group, group_eq, shape_number}
-use Rattle.groups.specs.Groups.{group_at, index_at, kind_at, number_of, first_pair, PairKind, nine_kinds, NineKind, group_in, clause_in, slot_at}
+use Rattle.groups.specs.Groups.{group_at, index_at, kind_at, number_of, first_pair, PairKind, nine_kinds, nines_of, NineKind, group_in, clause_in, slot_at}
 use Rattle.groups.specs.declared.Kind.{Kind}
 use Rattle.groups.specs.declared.Kind.TheVariants.{Cell, Column, Row, Box}
 
@@ -108,6 +110,23 @@ first_below Extended = omega arith
 pub nines_below : (s : ClauseSet) → nine_kinds s ≤ 4
 nines_below Minimal = omega arith
 nines_below Extended = omega arith
+
+-- the kinds of a set, one by one
+nine_of : (s : ClauseSet) (d : Kind) (i : ℕ) → i < nine_kinds s → get_or (nines_of s) i d ≡ kind_at i
+nine_of Minimal d zero h = refl
+nine_of Minimal d (suc i) h = absurd (omega arith)
+nine_of Extended d zero h = refl
+nine_of Extended d (suc zero) h = refl
+nine_of Extended d (suc (suc zero)) h = refl
+nine_of Extended d (suc (suc (suc zero))) h = refl
+nine_of Extended d (suc (suc (suc (suc i)))) h = absurd (omega arith)
+
+pub nines_long : (s : ClauseSet) {ks : List Kind} → ks ≡ nines_of s → length ks ≡ nine_kinds s
+nines_long Minimal e = ap length e
+nines_long Extended e = ap length e
+
+pub nine_at : (s : ClauseSet) {ks : List Kind} (d : Kind) (i : ℕ) → ks ≡ nines_of s → i < length ks → get_or ks i d ≡ kind_at i
+nine_at s d i e h = ap (λ ks. get_or ks i d) e ∙ nine_of s d i (omega (arith, h, nines_long s e))
 
 -- the kinds are those of the shapes
 pub pair_in : (s : ClauseSet) (f : Kind) → PairKind s f → (p i j : ℕ) → InSet s (NotBoth (group_at f p) i j)
@@ -256,7 +275,7 @@ clause_once x y a b e = ⊎_elim
     (λ u. ⊎_elim (λ v. omega (arith, u.1, v.1, e)) (λ v. omega (arith, u.1, v.1, e)) (clause_number y))
     (λ u. ⊎_elim (λ v. omega (arith, u.1, v.1, e)) (λ v. omega (arith, u.1, v.1, e)) (clause_number y)) (clause_number x)
 
--- it is document 01's number of the slot's clause: a test that is computed
+-- it is the number of the slot's clause in the sets: a test that is computed
 abbrev number_right : ℕ → Bool
 number_right x = eqb (number_of_shape (OneOf (group_in x))) (clause_in x)
 

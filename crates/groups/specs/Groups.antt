@@ -1,4 +1,4 @@
--- The four groups of a place, the slots of the nine-literal clauses, which are the groups in the order of their numbers in document 01, and the
+-- The four groups of a place, the slots of the nine-literal clauses, which are the groups in the order of the clauses' numbers, and the
 -- numbers of the two-literal clauses, which are pairs of places of a group.
 use Rattle.std.specs.Prelude.{◌≡◌, cond, ◌⊎◌, List, [], ◌∷◌, ◌++◌, map, ℕ, zero, suc, ◌+◌, ◌*◌, ◌-◌, ◌/◌, ◌%◌, ◌≤◌, ◌<◌, ltb, eqb, negsuc, length, get_or}
 use Rattle.clauses.specs.Clauses.{range, over, clauses_of}
@@ -61,6 +61,11 @@ abbrev pub nine_kinds : ClauseSet → ℕ
 nine_kinds Minimal = 1
 nine_kinds Extended = 4
 
+-- these kinds
+abbrev pub nines_of : ClauseSet → List Kind
+nines_of Minimal = Cell ∷ []
+nines_of Extended = Cell ∷ Column ∷ Row ∷ Box ∷ []
+
 -- a set has the nine of a kind
 abbrev pub NineKind : ClauseSet → Kind → Type 0
 NineKind s f = number_of f < nine_kinds s
@@ -71,7 +76,7 @@ group_in x =
     cond (ltb x 81) (group.Cell x)
     (cond (ltb x 162) (column_of (x - 81)) (cond (ltb x 243) (row_of (x - 162)) (box_of (x - 243))))
 
--- the number of its clause in document 01: F1 begins at 0, and F7 at 11,745
+-- the number of its clause: F1 begins at 0, and F7 at 11,745
 unfoldable pub clause_in : ℕ → ℕ
 clause_in x = cond (ltb x 81) x (x + 11664)
 

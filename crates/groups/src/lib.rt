@@ -1,10 +1,10 @@
 // The groups of a place: nine places each, of which a full grid makes one true, and the numbers of the clauses over them. A nine-literal clause has
-// a slot, in which its sum stands: one for each group, in the order of document 01's numbers. A two-literal clause is a pair of places of a group.
+// a slot, in which its sum stands: one for each group, in the order of the clauses' numbers. A two-literal clause is a pair of places of a group.
 // Places are plain numbers below 729, as they are computed: a type with that bound would be made and taken apart at each use.
 #![tactic(auto)]
 
 ghost use Rattle.std.specs.Prelude.{◌≡◌, ℕ, ◌/◌, ◌<◌};
-ghost use Rattle.groups.specs.Groups.{group_at, place_along, LineOf, kind_at, nine_kinds, row_at, first_number, pair_table, slot_at, clause_in};
+ghost use Rattle.groups.specs.Groups.{group_at, place_along, LineOf, nines_of, row_at, first_number, pair_table, slot_at, clause_in};
 
 use clauses::ClauseSet;
 
@@ -36,18 +36,6 @@ pub enum Kind {
 }
 
 impl Kind {
-    // The kinds by number, in that order: a set has the nine of the first kinds, so that they are counted.
-    pub fn at(i: usize) -> Kind
-        ensures { result ≡ kind_at i }
-    {
-        match i {
-            0 => Kind::Cell,
-            1 => Kind::Column,
-            2 => Kind::Row,
-            _ => Kind::Box,
-        }
-    }
-
     // The places of the group of this kind at place p.
     #[tactic(auto, using(crate::proofs::Slots::cell_place, crate::proofs::Slots::row_place, crate::proofs::Slots::column_place, crate::proofs::Slots::box_place))]
     pub fn line_of(self, p: usize) -> Line
@@ -143,13 +131,16 @@ impl Kind {
     }
 }
 
-// Of how many kinds, the first of them, a set has the nine.
-pub fn nine_kinds(set: ClauseSet) -> usize
-    ensures { result ≡ nine_kinds set }
+// The kinds.
+static KINDS: [Kind; 4] = [Kind::Cell, Kind::Column, Kind::Row, Kind::Box];
+
+// The kinds of which a set has the nine.
+pub fn nine_kinds(set: ClauseSet) -> &'static [Kind]
+    ensures { result.now ≡ nines_of set }
 {
     match set {
-        ClauseSet::Minimal => 1,
-        ClauseSet::Extended => 4,
+        ClauseSet::Minimal => &KINDS[..1],
+        ClauseSet::Extended => &KINDS,
     }
 }
 

@@ -4,24 +4,28 @@ ghost use Rattle.clauses.specs.Clauses.{clauses_of};
 ghost use Rattle.clauses.specs.Models.{givens};
 ghost use Rattle.closure.specs.Job.{job_end};
 ghost use Rattle.trials.specs.Known.{CompletionOk};
-ghost use Rattle.trials.specs.Steps.{end_of, ended_at};
+ghost use Rattle.trials.specs.Steps.{end, end_of};
 ghost use Rattle.inference.specs.Call.{finished, job_call};
 
 use grid::{Refusal, keyed};
 use orders::order::Order;
 use orders::technique::Technique;
 use propagation::close::close_givens;
-use trials::trial::{End, Ended, Job, Outcome};
+use trials::trial::{End, Job, Outcome};
 use worklist::acting::Worklist;
 
+// The end of a job, with the marks that it leaves: after a contradiction they mean nothing.
+#[derive(Drop)]
+pub struct Ended {
+    pub end: End,
+    pub marks: [u8; 729],
+}
+
 // The end of a job in which no trial is made.
-fn untried(outcome: Outcome, marks: &[u8; 729]) -> Ended
-    ensures { end_of result.end result.marks ≡ ended_at outcome marks.now 0 }
+fn untried(outcome: Outcome) -> End
+    ensures { result ≡ end outcome 0 }
 {
-    Ended {
-        end: End { outcome, count: 0 },
-        marks: *marks,
-    }
+    End { outcome, count: 0 }
 }
 
 // A job that is not refused, where the trials of some literals are known to succeed.
@@ -37,22 +41,28 @@ pub fn run_with(
         ≡ job_end (clauses_of technique.set) ceiling technique.trials order.now.entries.now (givens grid.now) }
 {
     let mut list = Worklist::new();
-    let Ok(state) = close_givens(technique.set, grid, &mut list) else {
-        return untried(Outcome::Contradiction, &[0; 729]);
+    let Ok(mut state) = close_givens(technique.set, grid, &mut list) else {
+        return Ended {
+            end: untried(Outcome::Contradiction),
+            marks: [0; 729],
+        };
     };
-    if state.decided == 729 {
-        return untried(Outcome::Solved, &state.marks);
-    }
-    if technique.trials {
+    let end = if state.decided == 729 {
+        untried(Outcome::Solved)
+    } else if technique.trials {
         let job = Job {
             set: technique.set,
             order: *order,
             ceiling,
             possible,
         };
-        job.passes(state, &mut list)
+        job.passes(&mut state, &mut list)
     } else {
-        untried(Outcome::Open, &state.marks)
+        untried(Outcome::Open)
+    };
+    Ended {
+        end,
+        marks: state.marks,
     }
 }
 

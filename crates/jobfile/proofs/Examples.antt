@@ -10,18 +10,17 @@ use Rattle.grid.specs.declared.Refusal.TheVariants.{PieceCut, PieceKind, PieceLe
 use Rattle.pieces.specs.Number.{signed_of}
 use Rattle.pieces.specs.Pieces.{piece_at, walk_from, pieces_of}
 use Rattle.pieces.specs.declared.piece.Bodies.{Bodies}
-use Rattle.jobfile.specs.Contents.{grid_in, technique_in}
 
 -- a file of G and technique 3, and its bodies
 abbrev whole : List ℕ
 whole = (81 ∷ 0 ∷ 1 ∷ 0 ∷ G) ++ (1 ∷ 0 ∷ 2 ∷ 0 ∷ 3 ∷ [])
 
 abbrev found : Bodies
-found = record { grid = 4; technique = 89; ceiling = None; order = None }
+found = record { grid = G; technique = 3; ceiling = None; order = None }
 
-is_whole : (pieces_of whole ≡ Ok found) × (grid_in whole found.grid ≡ G) × (technique_in whole found.technique ≡ 3)
+is_whole : pieces_of whole ≡ Ok found
 unfolding G piece_at walk_from pieces_of
-is_whole = (refl, refl, refl)
+is_whole = refl
 
 -- nothing, and a technique alone: no grid; a lone byte: cut short
 at_the_end : (pieces_of [] ≡ Err PieceMissing) × (pieces_of (1 ∷ 0 ∷ 2 ∷ 0 ∷ 1 ∷ []) ≡ Err PieceMissing) × (pieces_of (1 ∷ []) ≡ Err (PieceCut 0))

@@ -7,7 +7,7 @@ use Rattle.orders.specs.Order.{order_check}
 use Rattle.orders.specs.Technique.{technique_of}
 use Rattle.pieces.specs.Pieces.{pieces_of}
 use Rattle.pieces.specs.declared.piece.Bodies.{Bodies}
-use Rattle.jobfile.specs.Contents.{grid_in, technique_in, ceiling_in, order_in}
+use Rattle.jobfile.specs.Contents.{ceiling_in, order_in}
 use Rattle.jobfile.specs.declared.Settings.{Settings}
 
 -- the host's part, by lengths. 42: not 81 bytes for the grid; 46: not 1,458 literals for the order
@@ -27,17 +27,16 @@ Given = Result Settings Refusal × List ℕ × List ℤ
 abbrev pub refused : List ℕ → List ℤ → Refusal → Given
 refused g o r = (Err r, g, o)
 
--- what a file sets, by its bodies: technique and ceiling
-abbrev pub settings_in : List ℕ → Bodies → Settings
-settings_in f b = record { technique = technique_in f b.technique; ceiling = ceiling_in f b.ceiling }
+-- what the bodies set: technique and ceiling
+abbrev pub settings_in : Bodies → Settings
+settings_in b = record { technique = b.technique; ceiling = ceiling_in b.ceiling }
 
 -- what the bodies say, if it is accepted: technique and ceiling, the grid as it is in the file, and the order
-unfoldable pub read_bodies : List ℕ → Bodies → List ℕ → List ℤ → Given
-read_bodies f b g o =
-    on_accepted (contents_check (grid_in f b.grid) (technique_in f b.technique) (order_in f b.order)) (refused g o) λ u.
-    (Ok (settings_in f b), grid_in f b.grid, order_in f b.order)
+unfoldable pub read_bodies : Bodies → List ℕ → List ℤ → Given
+read_bodies b g o =
+    on_accepted (contents_check b.grid b.technique (order_in b.order)) (refused g o) λ u. (Ok (settings_in b), b.grid, order_in b.order)
 
 -- the host's part, then the layout software's, then the keyer's and the operator's
 unfoldable pub read_call : List ℕ → List ℕ → List ℤ → Given
 read_call f g o =
-    on_accepted (lent_check (length g) (length o)) (refused g o) λ u. on_accepted (pieces_of f) (refused g o) λ b. read_bodies f b g o
+    on_accepted (lent_check (length g) (length o)) (refused g o) λ u. on_accepted (pieces_of f) (refused g o) λ b. read_bodies b g o

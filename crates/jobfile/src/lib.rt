@@ -4,16 +4,14 @@
 //     Settings     what it answers
 #![tactic(auto)]
 
-ghost use Rattle.std.specs.Prelude.{◌≡◌, ◌+◌, ◌≤◌, length};
-ghost use Rattle.std.specs.Option.{ForSome};
-ghost use Rattle.pieces.specs.Bodies.{Readable};
-ghost use Rattle.jobfile.specs.Contents.{ceiling_in, entries_at, order_in};
+ghost use Rattle.std.specs.Prelude.{◌≡◌, length};
+ghost use Rattle.jobfile.specs.Contents.{entries_in, order_in};
 ghost use Rattle.jobfile.specs.Call.{contents_check, read_bodies, read_call};
 
 use grid::{Refusal, check_grid};
 use orders::order::{DEFAULT_CEILING, ENTRIES, check_order, default_order};
 use orders::technique::Technique;
-use pieces::number::{double_at, signed_at};
+use pieces::number::signed_at;
 use pieces::piece::{Bodies, read_pieces};
 
 // What a job file sets: the technique, by the number that a job call takes, and the ceiling.
@@ -23,37 +21,20 @@ pub struct Settings {
     pub ceiling: u32,
 }
 
-// The ceiling of a file, whose body begins at a place if it is there.
-fn ceiling_in(file: &[u8], body: Option<usize>) -> u32
-    requires { ForSome body λ at. at + 4 ≤ length file.now }
-    ensures { result ≡ ceiling_in file.now body }
+// The entries that the body of an order has.
+fn entries_in(body: &[u8; 2916]) -> [i16; ENTRIES]
+    ensures { result ≡ entries_in body.now }
 {
-    match body {
-        Some(at) => double_at(file, at),
-        None => DEFAULT_CEILING,
-    }
+    std::array::from_fn(|k| signed_at(body, 2 * k))
 }
 
-// The entries of an order from a place on.
-fn entries_at(file: &[u8], at: usize) -> [i16; ENTRIES]
-    requires { at + 2916 ≤ length file.now }
-    ensures { result ≡ entries_at file.now at }
-{
-    let mut entries = [0i16; ENTRIES];
-    for k in 0..ENTRIES {
-        entries[k] = signed_at(file, at + 2 * k);
-    }
-    entries
-}
-
-// The order of a file, whose body begins at a place if it is there.
+// The order of a file, if it names one.
 #[tactic(auto, unfolding(crate::specs::Contents::order_in))]
-fn order_in(file: &[u8], body: Option<usize>) -> [i16; ENTRIES]
-    requires { ForSome body λ at. at + 2916 ≤ length file.now }
-    ensures { result ≡ order_in file.now body }
+fn order_in(body: &Option<[u8; 2916]>) -> [i16; ENTRIES]
+    ensures { result ≡ order_in body.now }
 {
     match body {
-        Some(at) => entries_at(file, at),
+        Some(body) => entries_in(body),
         None => default_order(),
     }
 }
@@ -70,31 +51,25 @@ fn check_contents(grid: &[u8], technique: u32, order: &[i16]) -> Result<(), Refu
 
 // What the bodies say, once the pieces are found: it is checked, and only then fills what is lent, which stays slices, as hosts lend them.
 #[tactic(auto, unfolding(crate::specs::Call::read_bodies))]
-fn read_bodies(
-    file: &[u8],
-    bodies: Bodies,
-    grid: &mut [u8],
-    order: &mut [i16],
-) -> Result<Settings, Refusal>
-    requires { Readable file.now bodies × (length grid.old ≡ 81) × (length order.old ≡ 1458) }
+fn read_bodies(bodies: &Bodies, grid: &mut [u8], order: &mut [i16]) -> Result<Settings, Refusal>
+    requires { (length grid.old ≡ 81) × (length order.old ≡ 1458) }
     ensures { (result, grid.new, order.new)
-        ≡ read_bodies file.now bodies grid.old order.old }
+        ≡ read_bodies bodies.now grid.old order.old }
 {
-    let cells = &file[bodies.grid..bodies.grid + 81];
-    let technique = u32::from(file[bodies.technique]);
-    let entries = order_in(file, bodies.order);
-    check_contents(cells, technique, &entries)?;
-    grid.copy_from_slice(cells);
+    let technique = u32::from(bodies.technique);
+    let entries = order_in(&bodies.order);
+    check_contents(&bodies.grid, technique, &entries)?;
+    grid.copy_from_slice(&bodies.grid);
     order.copy_from_slice(&entries);
     Ok(Settings {
         technique,
-        ceiling: ceiling_in(file, bodies.ceiling),
+        ceiling: bodies.ceiling.unwrap_or(DEFAULT_CEILING),
     })
 }
 
 // The reading call. Refusals: 42 not 81 bytes lent for the grid; 46 not 1,458 literals for the order; 31 to 34 by the pieces; 12 by the grid;
 // 21 no such technique; 23 and 24 by the order.
-#[tactic(auto, using(pieces::proofs::Walking::pieces_readable), unfolding(crate::specs::Call::lent_check, crate::specs::Call::read_call))]
+#[tactic(auto, unfolding(crate::specs::Call::lent_check, crate::specs::Call::read_call))]
 pub fn read(file: &[u8], grid: &mut [u8], order: &mut [i16]) -> Result<Settings, Refusal>
     ensures { (result, grid.new, order.new)
         ≡ read_call file.now grid.old order.old }
@@ -105,6 +80,5 @@ pub fn read(file: &[u8], grid: &mut [u8], order: &mut [i16]) -> Result<Settings,
     if order.len() != ENTRIES {
         return Err(Refusal::OrderBuffer);
     }
-    let bodies = read_pieces(file)?;
-    read_bodies(file, bodies, grid, order)
+    read_bodies(&read_pieces(file)?, grid, order)
 }

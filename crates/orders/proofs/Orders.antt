@@ -1,11 +1,11 @@
 -- The operator's check accepts exactly the lists of 1,458 literals that have each once, and so the default order: the literal at its place i
 -- is the one whose place in a table of all literals is i.
 -- Assumes nothing.
-use mathlib.Core.Path.{◌≡◌, refl, ap, sym, subst}
+use mathlib.Core.Path.{◌≡◌, refl, ap, sym, subst, ◌∙◌}
 use mathlib.Core.Logic.{◌↔◌}
 use mathlib.Core.Bool.{Bool, true, false, not, ◌||◌, ◌&&◌}
 use mathlib.Core.List.{List, [], ◌∷◌}
-use Prim.Native.Nat.{ℕ, zero, suc, ◌+◌, ◌*◌, ◌≤◌, ◌<◌}
+use Prim.Native.Nat.{ℕ, zero, suc, ◌+◌, ◌*◌, ◌≤◌, ◌<◌, ◌-◌, ◌/◌, ◌%◌}
 use native.Mathlib.Decide.{ℕ_discrete}
 use native.Mathlib.Omega.{arith}
 use borrow.Author.Tests.{eqb-true, eqb-false, ltb-true, ltb-false}
@@ -111,7 +111,7 @@ accepted_no_other o e =
     let t = (accepted_iff o).0 e in
     position_or_len_is no_literal o (length o) (pos 0) (omega arith) (λ k b. fails_before_first no_literal o k (pos 0) (omega (arith, t.0, t.1))) (λ b. absurd (omega arith))
 
-pub no_other_literals : (o : List ℤ) → first_no_literal o ≡ length o → Literals o
+pub no_other_literals : (o : List ℤ) → length o ≤ first_no_literal o → Literals o
 unfolding first_no_literal
 no_other_literals o e k b = (literal_iff (entry o k)).0 (not_fails (is_literal (entry o k)) (fails_before_first no_literal o k (pos 0) (omega (arith, e))))
 
@@ -131,18 +131,15 @@ order_accepted o h = (accepted_iff o).1 (
     }
 
 -- a literal's place is in the table, and is no other literal's
-pub place_below : (l : ℤ) → Literal l → table_place l < 1458
+pub place_below : (l : ℤ) → Literal l → table_place l < 1459
 place_below (pos zero) h = absurd h
 place_below (pos (suc k)) h = omega arith
 place_below (negsuc k) h = omega arith
 
 pub place_once : (l m : ℤ) → Literal l → Literal m → table_place l ≡ table_place m → l ≡ m
-place_once (pos zero) m h i e = absurd h
-place_once (pos (suc a)) (pos zero) h i e = absurd i
-place_once (pos (suc a)) (pos (suc b)) h i e = ap (λ k. pos (suc k)) (omega arith)
-place_once (pos (suc a)) (negsuc b) h i e = absurd (omega arith)
-place_once (negsuc a) (pos zero) h i e = absurd i
-place_once (negsuc a) (pos (suc b)) h i e = absurd (omega arith)
+place_once (pos a) (pos b) h i e = ap pos (omega arith)
+place_once (pos a) (negsuc b) h i e = absurd (omega arith)
+place_once (negsuc a) (pos b) h i e = absurd (omega arith)
 place_once (negsuc a) (negsuc b) h i e = ap negsuc (omega arith)
 
 -- +v and -v for n variables v from a + 1 on
@@ -153,27 +150,40 @@ pairs_long : (a n : ℕ) → length (pairs a n) ≡ 2 * n
 pairs_long a zero = refl
 pairs_long a (suc n) = omega (arith, pairs_long (suc a) n)
 
-pairs_place : (a n i : ℕ) → a + n ≤ 729 → i < 2 * n → Literal (entry (pairs a n) i) × (table_place (entry (pairs a n) i) ≡ 2 * a + i)
-pairs_place a zero i s h = absurd (omega arith)
-pairs_place a (suc n) zero s h = (omega arith, omega arith)
-pairs_place a (suc n) (suc zero) s h = (omega arith, omega arith)
-pairs_place a (suc n) (suc (suc i)) s h = let r = pairs_place (suc a) n i (omega arith) (omega arith) in (r.0, omega (arith, r.1))
+pairs_at : (a n k : ℕ) → k < n → (entry (pairs a n) (2 * k) ≡ pos (suc (a + k))) × (entry (pairs a n) (2 * k + 1) ≡ negsuc (a + k))
+pairs_at a zero k h = absurd (omega arith)
+pairs_at a (suc n) zero h = (ap (λ x. pos (suc x)) (omega arith), ap negsuc (omega arith))
+pairs_at a (suc n) (suc k) h =
+    let r = pairs_at (suc a) n k (omega arith) in
+    let e : 2 * suc k ≡ suc (suc (2 * k)) = omega arith in
+    let f : 2 * suc k + 1 ≡ suc (suc (2 * k + 1)) = omega arith in (
+      ap (entry (pairs a (suc n))) e ∙ r.0 ∙ ap (λ x. pos (suc x)) (omega arith),
+      ap (entry (pairs a (suc n))) f ∙ r.1 ∙ ap negsuc (omega arith),
+    )
 
--- the default order has each literal at its place
+-- the default order has each literal, at a place of its own
 pub default_long : length default_order ≡ 1458
 default_long = pairs_long 0 729
 
-default_place : (i : ℕ) → i < 1458 → Literal (entry default_order i) × (table_place (entry default_order i) ≡ i)
-default_place i h = let r = pairs_place 0 729 i (omega arith) (omega arith) in (r.0, omega (arith, r.1))
+pub default_at : (k : ℕ) → k < 729 → (entry default_order (2 * k) ≡ pos (suc k)) × (entry default_order (2 * k + 1) ≡ negsuc k)
+default_at k h = let r = pairs_at 0 729 k h in (r.0 ∙ ap (λ x. pos (suc x)) (omega arith), r.1 ∙ ap negsuc (omega arith))
 
-pub default_at : (l : ℤ) → Literal l → entry default_order (table_place l) ≡ l
-default_at l h =
-    let r = default_place (table_place l) (place_below l h) in
-    place_once (entry default_order (table_place l)) l r.0 h r.1
+abbrev order_place : ℤ → ℕ
+order_place (pos v) = 2 * (v - 1)
+order_place (negsuc k) = 2 * k + 1
+
+default_place : (i : ℕ) → i < 1458 → Literal (entry default_order i) × (order_place (entry default_order i) ≡ i)
+default_place i h =
+    let k : i / 2 < 729 = omega arith in
+    let r = default_at (i / 2) k in
+    elim (ℕ_discrete (i % 2) 0) [
+      | yes e ↦ (let q : 2 * (i / 2) ≡ i = omega arith in subst (λ x. Literal (entry default_order x) × (order_place (entry default_order x) ≡ i)) q (rw r.0 (k, omega arith)))
+      | no d ↦ (let q : 2 * (i / 2) + 1 ≡ i = omega arith in subst (λ x. Literal (entry default_order x) × (order_place (entry default_order x) ≡ i)) q (rw r.1 (k, omega arith)))
+    ]
 
 pub default_accepted : order_check default_order ≡ Ok tt
 default_accepted = order_accepted default_order (
   default_long,
   (λ k h. (default_place k h).0),
-  λ i j a b q. omega (arith, (default_place i (omega arith)).1, (default_place j b).1, ap table_place q),
+  λ i j a b q. omega (arith, (default_place i (omega arith)).1, (default_place j b).1, ap order_place q),
 )

@@ -20,11 +20,11 @@ use Rattle.orders.proofs.Orders.{entry, among, among_none, among_more, same_iff,
 module _ (o : List ℤ) where
   -- what the table has after n entries
   pub record Seen (n : ℕ) (seen : List Bool) : Type 0 where
-    pub long : length seen ≡ 1458
+    pub long : length seen ≡ 1459
     pub told : (l : ℤ) → Literal l → get_or seen (table_place l) false ≡ among o n l
 
-  pub seen_none : Seen 0 (replicate 1458 false)
-  seen_none = record { long = refl; told = λ l h. rw (among_none o l) (get_or-replicate 1458 (table_place l) false false (place_below l h)) }
+  pub seen_none : Seen 0 (replicate 1459 false)
+  seen_none = record { long = refl; told = λ l h. rw (among_none o l) (get_or-replicate 1459 (table_place l) false false (place_below l h)) }
 
   -- entry n is read, whose place is `at`: the table tells whether it is a repeat, and then has it too
   pub record Read (n : ℕ) (seen : List Bool) (at : ℕ) : Type 0 where

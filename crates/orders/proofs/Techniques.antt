@@ -1,4 +1,4 @@
--- Which technique is at least as strong as which is document 01's table, found by going through the four; and a set that is within another
+-- Which technique is at least as strong as which is a small table, found by going through the four; and a set that is within another
 -- has no clause that the other lacks.
 -- Assumes nothing.
 use mathlib.Core.Path.{◌≡◌, refl}
@@ -40,7 +40,7 @@ module _ (P : ℕ → Technique → Type 0) (one : P 1 unit_minimal) (two : P 2 
           let none : ◌≡◌ {A = Result Technique Refusal} (Err refusal.Technique) (Ok t) = rw (ne_eqb n 1 a, ne_eqb n 2 b, ne_eqb n 3 c, ne_eqb n 4 d) at e in
           let z : ◌≡◌ {A = ℕ} 0 1 = cc in absurd (omega arith)
 
--- document 01: the same, 1 below 2, 3 and 4, 2 below 4, 3 below 4
+-- the table: the same, 1 below 2, 3 and 4, 2 below 4, 3 below 4
 abbrev pub same_or_below : ℕ → ℕ → Bool
 same_or_below m n = eqb m n || (eqb m 1 && (eqb n 2 || (eqb n 3 || eqb n 4))) || (eqb m 2 && eqb n 4) || (eqb m 3 && eqb n 4)
 

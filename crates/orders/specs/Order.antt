@@ -1,5 +1,5 @@
 -- The order of trials: its default, and the operator's check of it.
-use Rattle.std.specs.Prelude.{Bool, false, cond, not, List, [], ◌∷◌, ℕ, suc, ◌<◌, eqb, ltb, ℤ, pos, negsuc, length, get_or, Result, Ok, Err}
+use Rattle.std.specs.Prelude.{Bool, false, cond, not, List, [], ◌∷◌, ℕ, suc, ◌<◌, eqb, ltb, ℤ, pos, negsuc, length, get_or, Option, None, Some, Result, Ok, Err}
 use Rattle.std.specs.List.{position_or_len}
 use Rattle.grid.specs.Counting.{all, least_from}
 use Rattle.grid.specs.declared.Refusal.{Refusal}
@@ -33,6 +33,10 @@ repeats o i = not (all i (λ j. not (same (get_or o j (pos 0)) (get_or o i (pos 
 -- the place of the first entry equal to an earlier one, or the length
 unfoldable pub first_repeat : List ℤ → ℕ
 first_repeat o = least_from 0 (length o) (repeats o)
+
+-- place r, if it is one before n
+abbrev pub before : ℕ → ℕ → Option ℕ
+before n r = cond (ltb r n) (Some r) None
 
 -- 22: not 1,458 entries; 23: the first that is no literal; 24: the first that is a repeat
 unfoldable pub order_check : List ℤ → Result (Unit {0}) Refusal

@@ -1,7 +1,7 @@
--- Where a literal stands in a table of all 1,458.
-use Rattle.std.specs.Prelude.{ℕ, ◌+◌, ◌*◌, ◌-◌, ℤ, pos, negsuc}
+-- Where a literal stands in a table of the numbers from −729 on.
+use Rattle.std.specs.Prelude.{ℕ, ◌+◌, ◌-◌, ℤ, pos, negsuc}
 
--- +v at 2 (v − 1), and −v after it
+-- 0 would stand at 729
 abbrev pub table_place : ℤ → ℕ
-table_place (pos v) = 2 * (v - 1)
-table_place (negsuc k) = 2 * k + 1
+table_place (pos v) = 729 + v
+table_place (negsuc k) = 728 - k

@@ -1,7 +1,7 @@
 // The order of trials: a list of 1,458 literals, each once.
 ghost use Rattle.std.specs.Prelude.{◌≡◌, length};
 ghost use Rattle.clauses.specs.Literal.{Literal};
-ghost use Rattle.orders.specs.Order.{default_order, first_no_literal, order_check};
+ghost use Rattle.orders.specs.Order.{default_order, first_no_literal, first_repeat, before, order_check, Literals};
 ghost use Rattle.orders.specs.Place.{table_place};
 
 use clauses::literal;
@@ -25,37 +25,49 @@ pub fn default_order() -> [i16; ENTRIES]
     order
 }
 
-// The place of a literal in a table of all: +v at 2 (v - 1), and -v after it. Literals are plain numbers, as an order lends them.
+// The place of a literal in a table of the numbers from -729 on. Literals are plain numbers, as an order lends them.
 fn table_place(l: i16) -> usize
     requires { Literal l }
     ensures { result ≡ table_place l }
 {
-    let mark = literal::mark_index(l);
-    if l < 0 { 2 * mark + 1 } else { 2 * mark }
+    (l + 729) as usize
 }
 
-// The operator's check of an order, in one pass: a table tells which literals have come by. The first repeat is only remembered, since an entry
-// that is no literal is reported before it wherever it stands.
+// The place of the first entry that is no literal.
+#[tactic(auto, unfolding(crate::specs::Order::first_no_literal))]
+fn first_no_literal(order: &[i16]) -> Option<usize>
+    ensures { result ≡ before (length order.now) (first_no_literal order.now) }
+{
+    order.iter().position(|l| !literal::is_literal(*l))
+}
+
+// The place of the first entry that equals an earlier one: a table tells which literals have come by.
+fn first_repeat(order: &[i16]) -> Option<usize>
+    requires { (length order.now ≡ 1458) × Literals order.now }
+    ensures { result ≡ before 1458 (first_repeat order.now) }
+{
+    let mut seen = [false; ENTRIES + 1];
+    for (i, l) in order.iter().enumerate() {
+        let at = table_place(*l);
+        if seen[at] {
+            return Some(i);
+        }
+        seen[at] = true;
+    }
+    None
+}
+
+// The operator's check of an order: an entry that is no literal is reported before a repeat, wherever it stands.
 pub fn check_order(order: &[i16]) -> Result<(), Refusal>
     ensures { result ≡ order_check order.now }
 {
     if order.len() != ENTRIES {
         return Err(Refusal::OrderLength);
     }
-    let mut seen = [false; ENTRIES];
-    let mut repeat = None;
-    for i in 0..ENTRIES {
-        let l = order[i];
-        if !literal::is_literal(l) {
-            return Err(Refusal::OrderEntry(i));
-        }
-        let at = table_place(l);
-        if seen[at] {
-            repeat = repeat.or(Some(i));
-        }
-        seen[at] = true;
+    if let Some(i) = first_no_literal(order) {
+        return Err(Refusal::OrderEntry(i));
     }
-    match repeat {
+    match first_repeat(order) {
         Some(i) => Err(Refusal::OrderRepeat(i)),
         None => Ok(()),
     }

@@ -1,4 +1,4 @@
-// Techniques: document 01's four, each a clause set with or without trials.
+// The four techniques, each a clause set with or without trials.
 ghost use Rattle.std.specs.Prelude.{◌≡◌};
 ghost use Rattle.orders.specs.Technique.{unit_minimal, unit_extended, trials_minimal, trials_extended, number_of, technique_of};
 

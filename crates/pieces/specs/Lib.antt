@@ -1,3 +1,2 @@
 pub mod Number
 pub mod Pieces
-pub mod Bodies

@@ -1,11 +1,12 @@
 -- A job file is pieces: body length (2 bytes), kind (2 bytes), body, little-endian. Kinds strictly rise: 1 grid, 2 technique, 3 ceiling,
 -- 4 order; 1 and 2 must be there.
-use Rattle.std.specs.Prelude.{Bool, true, cond, ◌&&◌, List, ℕ, zero, suc, ◌+◌, ◌-◌, eqb, leb, ltb, length, Option, None, Some, Result, Ok, Err}
+use Rattle.std.specs.Prelude.{Bool, true, cond, ◌&&◌, List, ℕ, zero, suc, ◌+◌, ◌-◌, eqb, leb, ltb, length, take, drop, Option, None, Some, Result, Ok, Err}
 use Rattle.std.specs.Option.{ok_or}
 use Rattle.grid.specs.Refusals.{on_accepted}
 use Rattle.grid.specs.declared.Refusal.{Refusal}
 use Rattle.grid.specs.declared.Refusal.TheVariants.{PieceCut, PieceKind, PieceLength, PieceMissing}
-use Rattle.pieces.specs.Number.{word_at}
+use Rattle.grid.specs.Grid.{byte}
+use Rattle.pieces.specs.Number.{word_at, double_at}
 use Rattle.pieces.specs.declared.piece.Kind.{Kind}
 use Rattle.pieces.specs.declared.piece.Kind.TheVariants.{Grid, Technique, Ceiling, Order}
 use Rattle.pieces.specs.declared.piece.Piece.{Piece}
@@ -51,12 +52,12 @@ piece_of long number left at last =
 unfoldable pub piece_at : List ℕ → ℕ → Option Kind → Result Piece Refusal
 piece_at f at last = piece_of (word_at f at) (word_at f (at + 2)) (length f - at) at last
 
--- the bodies with that of one piece more, which begins at `at`
-abbrev pub with_body : Found → Kind → ℕ → Found
-with_body b Grid at = record b { grid = Some at }
-with_body b Technique at = record b { technique = Some at }
-with_body b Ceiling at = record b { ceiling = Some at }
-with_body b Order at = record b { order = Some at }
+-- the bodies with that of one piece more, with which the bytes begin
+abbrev pub with_body : Found → Kind → List ℕ → Found
+with_body b Grid f = record b { grid = Some (take 81 f) }
+with_body b Technique f = record b { technique = Some (byte f 0) }
+with_body b Ceiling f = record b { ceiling = Some (double_at f 0) }
+with_body b Order f = record b { order = Some (take 2916 f) }
 
 -- no body
 abbrev pub no_bodies : Found
@@ -66,7 +67,7 @@ no_bodies = record { grid = None; technique = None; ceiling = None; order = None
 unfoldable pub walk_from : ℕ → List ℕ → ℕ → Option Kind → Found → Result Found Refusal
 walk_from zero f at last b = Ok b
 walk_from (suc n) f at last b =
-    cond (ltb at (length f)) (on_accepted (piece_at f at last) Err λ p. walk_from n f p.next (Some p.kind) (with_body b p.kind (at + 4))) (Ok b)
+    cond (ltb at (length f)) (on_accepted (piece_at f at last) Err λ p. walk_from n f p.next (Some p.kind) (with_body b p.kind (drop (at + 4) f))) (Ok b)
 
 -- the pieces of a file, of which there are no more than bytes
 abbrev pub walked : List ℕ → Result Found Refusal

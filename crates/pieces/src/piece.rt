@@ -1,8 +1,8 @@
 // The pieces of a job file: one reader for pieces of every kind, and the walk from piece to piece.
-ghost use Rattle.std.specs.Prelude.{◌≡◌, ◌<◌, length};
+ghost use Rattle.std.specs.Prelude.{◌≡◌, ◌+◌, ◌<◌, ◌≤◌, length, IfOk};
 ghost use Rattle.pieces.specs.Pieces.{kind_of, body_length, rises, piece_at, with_body, walked, complete, pieces_of};
 
-use crate::number::word_at;
+use crate::number::{double_at, word_at};
 use grid::Refusal;
 
 // The kinds of pieces, in the order in which they stand in a file.
@@ -21,22 +21,23 @@ struct Piece {
     next: usize,
 }
 
-// Where the bodies begin that the walk has come by.
+// The bodies that the walk has come by.
 #[derive(Clone, Copy, Default)]
 struct Found {
-    grid: Option<usize>,
-    technique: Option<usize>,
-    ceiling: Option<usize>,
-    order: Option<usize>,
+    grid: Option<[u8; 81]>,
+    technique: Option<u8>,
+    ceiling: Option<u32>,
+    order: Option<[u8; 2916]>,
 }
 
-// Where the bodies of a file begin, of which grid and technique must be there. They are places and not slices, as their definitions are.
+// The bodies of a file, of which grid and technique must be there. They are copies: a slice has an address, which no definition over
+// the file's bytes can give.
 #[derive(Clone, Copy, Debug, PartialEq, Eq)]
 pub struct Bodies {
-    pub grid: usize,
-    pub technique: usize,
-    pub ceiling: Option<usize>,
-    pub order: Option<usize>,
+    pub grid: [u8; 81],
+    pub technique: u8,
+    pub ceiling: Option<u32>,
+    pub order: Option<[u8; 2916]>,
 }
 
 impl Kind {
@@ -77,7 +78,8 @@ impl Kind {
 #[tactic(auto, unfolding(crate::specs::Pieces::piece_at))]
 fn piece_at(file: &[u8], at: usize, last: Option<Kind>) -> Result<Piece, Refusal>
     requires { at < length file.now }
-    ensures { result ≡ piece_at file.now at last }
+    ensures value { result ≡ piece_at file.now at last }
+    ensures within { IfOk result λ p. (p.next ≡ at + 4 + body_length p.kind) × (p.next ≤ length file.now) }
 {
     let left = file.len() - at;
     if left < 4 {
@@ -101,15 +103,16 @@ fn piece_at(file: &[u8], at: usize, last: Option<Kind>) -> Result<Piece, Refusal
 }
 
 impl Found {
-    // Adds the body of one piece more.
-    fn add(&mut self, kind: Kind, at: usize)
-        ensures { self.new ≡ with_body self.old kind at }
+    // Adds the body of one piece more, with which what is left of the file begins.
+    fn add(&mut self, kind: Kind, left: &[u8])
+        requires { body_length kind ≤ length left.now }
+        ensures { self.new ≡ with_body self.old kind left.now }
     {
         match kind {
-            Kind::Grid => self.grid = Some(at),
-            Kind::Technique => self.technique = Some(at),
-            Kind::Ceiling => self.ceiling = Some(at),
-            Kind::Order => self.order = Some(at),
+            Kind::Grid => self.grid = left.first_chunk().copied(),
+            Kind::Technique => self.technique = left.first().copied(),
+            Kind::Ceiling => self.ceiling = Some(double_at(left, 0)),
+            Kind::Order => self.order = left.first_chunk().copied(),
         }
     }
 
@@ -138,7 +141,7 @@ fn walk(file: &[u8]) -> Result<Found, Refusal>
     // A while, since each piece says where the next one begins.
     while at < file.len() {
         let Piece { kind, next } = piece_at(file, at, last)?;
-        found.add(kind, at + 4);
+        found.add(kind, &file[at + 4..]);
         last = Some(kind);
         at = next;
     }

@@ -67,7 +67,6 @@ state_ready s {st} ok none =
     record {
       marks = ok.marks.marks;
       sums = ok.sums;
-      count = ok.count;
       long = none.1;
       room = omega (arith, none.0);
       numbers = λ i h. absurd (omega (arith, none.0));
@@ -100,7 +99,7 @@ module _ (s : ClauseSet) {st : State} {l : Worklist} (r : Ready s (λ x. ⊥) st
       ]
 
   pub ready_state : Closed s st
-  ready_state = record { marks = record { marks = r.marks; closed = ready_closed }; sums = r.sums; count = r.count }
+  ready_state = record { marks = record { marks = r.marks; closed = ready_closed }; sums = r.sums }
 
 pub stepped_closes : (s : ClauseSet) {m : List ℕ} {st : State} {l : Worklist} → Stepped s m st l → l.listed ≡ 0 → ComesTo s (λ k. T (has m k)) (Ok st)
 stepped_closes s v none =

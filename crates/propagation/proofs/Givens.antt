@@ -22,7 +22,7 @@ use Rattle.clauses.specs.declared.ClauseSet.TheVariants.{Extended}
 use Rattle.clauses.proofs.Members.{givens_iff, given_variable}
 use Rattle.closure.specs.Sets.{IsLeast}
 use Rattle.closure.specs.Closure.{With, UnitClosed}
-use Rattle.closure.specs.Marks.{has, decided_in, blank}
+use Rattle.closure.specs.Marks.{has, decided_in, decided, blank}
 use Rattle.closure.specs.Propagation.{closed}
 use Rattle.closure.proofs.Sets.{least_given, least_mono}
 use Rattle.closure.proofs.Marks.{zeros, has_blank, is_marks_blank}
@@ -33,7 +33,7 @@ use Rattle.groups.proofs.Slots.{nines_below}
 use Rattle.worklist.proofs.Rules.{groups_closed}
 use Rattle.std.specs.Prelude.{Result}
 use Rattle.worklist.specs.declared.acting.State.{State}
-use Rattle.propagation.specs.Steps.{Closed, answer_of, ComesTo}
+use Rattle.propagation.specs.Steps.{MarksOk, Closed, answer_of, ComesTo}
 use Rattle.propagation.specs.declared.close.Clash.{Clash}
 use Rattle.propagation.proofs.Closing.{closes_between}
 
@@ -85,13 +85,16 @@ other_differs (suc i) e = omega arith
 blank_closed : (s : ClauseSet) → UnitClosed (clauses_of s) (has blank)
 blank_closed s = groups_closed s (has blank) (λ f n p b i j c d e t. absurd (has_blank _ t)) (λ f n p b k c t. absurd (has_blank _ (t (other k) (other_below k) (other_differs k))))
 
-pub blank_state : (s : ClauseSet) {a : List ℕ} → SumsOk Extended blank a → Closed s (record { marks = blank; sums = a; decided = 0 })
+-- a state with nothing decided
+pub none_decided : 0 ≡ decided blank
 unfolding decided_in
-blank_state s r =
+none_decided = refl
+
+pub blank_state : (s : ClauseSet) (st : State) → st.marks ≡ blank → SumsOk Extended blank st.sums → Closed s st
+blank_state s st e r =
     record {
-      marks = record { marks = is_marks_blank; closed = blank_closed s };
-      sums = sums_some s r;
-      count = refl;
+      marks = subst (MarksOk s) (sym e) (record { marks = is_marks_blank; closed = blank_closed s });
+      sums = sums_some s (subst (λ m. SumsOk Extended m st.sums) (sym e) r);
     }
 
 module _ (s : ClauseSet) (g : List ℕ) where

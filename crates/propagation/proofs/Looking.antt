@@ -19,7 +19,6 @@ use Rattle.closure.specs.Closure.{UnitClosed}
 use Rattle.closure.specs.Marks.{has}
 use Rattle.closure.proofs.Sets.{least_given, least_within}
 use Rattle.closure.proofs.Closure.{contradiction_mono}
-use Rattle.closure.proofs.Marks.{decided_bounded}
 use Rattle.groups.specs.Groups.{group_in, clause_in}
 use Rattle.worklist.specs.Sums.{InSlots, sum_of}
 use Rattle.worklist.specs.Acting.{AllBut, Listed, At, Popped, Undecided, Ready, Struck, Follows, Clashes, Stepped}
@@ -57,10 +56,6 @@ stepped_more s {m} {st} {st'} v w =
       follows = follows_more s m st.marks st'.marks v.follows w.follows;
     }
 
--- the list has room for what is listed
-pub listed_long : {s : ClauseSet} {E : ℕ → Type 0} {st : State} {l : Worklist} → Ready s E st l → l.listed ≤ length l.numbers
-listed_long {st = st} r = omega (arith, r.room, r.count, r.long, decided_bounded st.marks)
-
 -- a clause is taken off the list: the list lacks no other
 pub taken : (s : ClauseSet) {st : State} {l l' : Worklist} {c : ℕ} → Ready s (λ x. ⊥) st l → Popped l l' (Some c) → Ready s (OffList c) st l' × IsClause s c
 taken s {st} {l} {l'} {c} r p =
@@ -68,7 +63,6 @@ taken s {st} {l} {l'} {c} r p =
       record {
         marks = r.marks;
         sums = r.sums;
-        count = r.count;
         long = ap length p.1 ∙ r.long;
         room = omega (arith, p.0, r.room);
         numbers = λ i h. let v = r.numbers i (omega (arith, p.0)) in (v.0, v.1, same i ∙ v.2);
@@ -100,7 +94,6 @@ module _ (s : ClauseSet) (st : State) (l : Worklist) (c : ℕ) (r : Ready s (Off
       record {
         marks = r.marks;
         sums = r.sums;
-        count = r.count;
         long = r.long;
         room = r.room;
         numbers = r.numbers;

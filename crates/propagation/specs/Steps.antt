@@ -3,7 +3,7 @@ use Rattle.std.specs.Prelude.{◌≡◌, List, ℕ, ℤ, Result, Ok, Err, IfOk}
 use Rattle.clauses.specs.Clauses.{clauses_of}
 use Rattle.clauses.specs.declared.ClauseSet.{ClauseSet}
 use Rattle.closure.specs.Closure.{UnitClosed}
-use Rattle.closure.specs.Marks.{has, decided, IsMarks}
+use Rattle.closure.specs.Marks.{has, IsMarks}
 use Rattle.closure.specs.Propagation.{Answer, clash, closed, Closes}
 use Rattle.worklist.specs.Sums.{SumsOk}
 use Rattle.worklist.specs.declared.acting.State.{State}
@@ -14,11 +14,10 @@ pub record MarksOk (s : ClauseSet) (m : List ℕ) : Type 0 where
   pub marks : IsMarks m
   pub closed : UnitClosed (clauses_of s) (has m)
 
--- with their sums and their number: a state between two closures
+-- with their sums: a state between two closures
 pub record Closed (s : ClauseSet) (st : State) : Type 0 where
   pub marks : MarksOk s st.marks
   pub sums : SumsOk s st.marks st.sums
-  pub count : st.decided ≡ decided st.marks
 
 -- a closure's answer: the marks of the state, or a contradiction
 abbrev pub answer_of : Result State Clash → Answer

@@ -10,7 +10,7 @@ ghost use Rattle.completions.specs.Left.{left};
 ghost use Rattle.branching.specs.Branching.{Refuted};
 ghost use Rattle.refutation.specs.declared.Unrefuted.TheVariants.{Spent};
 
-use branching::{Look, Test};
+use branching::{Look, Plain, Survey, Test};
 use clauses::ClauseSet;
 use clauses::decode::place;
 use propagation::close::{Clash, close_true};
@@ -26,12 +26,12 @@ enum Unrefuted {
 // An attempt to refute states: how it looks at them before a branch, and how many nodes it may still have. Each step asks for a closed state, as a
 // contradiction leaves one half closed. Places are plain numbers, as they are computed.
 #[derive(Drop)]
-struct Attempt {
-    look: Look,
+struct Attempt<L> {
+    look: L,
     nodes: u32,
 }
 
-impl Attempt {
+impl<L: Look> Attempt<L> {
     // Each place of the group that the look names is tried.
     #[cycle(refute)]
     fn refute(&mut self, test: &mut Test, state: &mut State) -> Result<(), Unrefuted>
@@ -42,7 +42,7 @@ impl Attempt {
             return Err(Unrefuted::Spent);
         }
         self.nodes -= 1;
-        match test.look(state, self.look) {
+        match self.look.look(test, state) {
             Err(Clash) => Ok(()),
             Ok(None) => Err(Unrefuted::Full),
             Ok(Some(group)) => {
@@ -87,7 +87,12 @@ impl Attempt {
 }
 
 // An attempt on a copy of a state, which takes its place where it has become that of a full grid.
-fn refute_copy(test: &mut Test, state: &mut State, look: Look, nodes: u32) -> Result<(), Unrefuted>
+fn refute_copy(
+    test: &mut Test,
+    state: &mut State,
+    look: impl Look,
+    nodes: u32,
+) -> Result<(), Unrefuted>
     requires { Closed Extended state.old }
     ensures { OnOk result (left state.old.marks ≡ List.[]) × (result ≡ Err Spent → state.new ≡ state.old) }
 {
@@ -107,7 +112,7 @@ fn refuted_by_surveys(test: &mut Test, state: &mut State) -> bool
     ensures { result ≡ true → left state.old.marks ≡ List.[] }
 {
     for doublings in 0..21u32 {
-        match refute_copy(test, state, Look::Survey, 12 << doublings) {
+        match refute_copy(test, state, Survey, 12 << doublings) {
             Ok(()) => return true,
             Err(Unrefuted::Full) => return false,
             Err(Unrefuted::Spent) => {}
@@ -125,7 +130,7 @@ pub fn refuted(test: &mut Test, state: &mut State) -> bool
     requires { Closed Extended state.old }
     ensures { result ≡ true → left state.old.marks ≡ List.[] }
 {
-    match refute_copy(test, state, Look::Plain, PLAIN) {
+    match refute_copy(test, state, Plain, PLAIN) {
         Ok(()) => true,
         Err(Unrefuted::Full) => false,
         Err(Unrefuted::Spent) => refuted_by_surveys(test, state),

@@ -75,13 +75,6 @@ pub struct End {
     pub count: u32,
 }
 
-// The end of a job, with the marks that it leaves: after a contradiction they mean nothing.
-#[derive(Drop)]
-pub struct Ended {
-    pub end: End,
-    pub marks: [u8; 729],
-}
-
 // How far a job has come: its state, what is known to succeed there, and how many trials were made. A contradiction leaves it half closed, so that
 // each step asks that it walks.
 #[derive(Drop)]
@@ -178,25 +171,23 @@ impl Job<'_> {
         Outcome::Open
     }
 
-    // The job from a state on.
-    pub fn passes(&self, state: State, list: &mut Worklist) -> Ended
-        requires { Closed self.now.set state × PossibleOk self.now.set state.marks self.now.possible.now }
-        ensures { end_of result.end result.marks
-            ≡ passes_along (clauses_of self.now.set) self.now.ceiling 729 self.now.order.entries.now state.marks 0 }
+    // The job from a state on, which it takes as far as it goes: after a contradiction its marks mean nothing.
+    pub fn passes(&self, state: &mut State, list: &mut Worklist) -> End
+        requires { Closed self.now.set state.old × PossibleOk self.now.set state.old.marks self.now.possible.now }
+        ensures { end_of result state.new.marks
+            ≡ passes_along (clauses_of self.now.set) self.now.ceiling 729 self.now.order.entries.now state.old.marks 0 }
     {
         let mut progress = Progress {
-            state,
+            state: *state,
             list,
             known: *self.possible,
             count: 0,
         };
         let outcome = self.walk_all(&mut progress);
-        Ended {
-            end: End {
-                outcome,
-                count: progress.count,
-            },
-            marks: progress.state.marks,
+        *state = progress.state;
+        End {
+            outcome,
+            count: progress.count,
         }
     }
 }

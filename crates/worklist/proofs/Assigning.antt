@@ -167,7 +167,7 @@ module _ (s : ClauseSet) (p b : ℕ) (st : State) (l : Worklist) (r : Ready s (A
       record {
         long = r.sums.long;
         room = r.long;
-        few = omega (arith, r.room, r.count);
+        few = omega (arith, r.room, st.counted);
         done = λ x h l. absurd (omega arith);
         todo = λ x h l. r.sums.sums x h;
         numbers = r.numbers;
@@ -179,7 +179,7 @@ module _ (s : ClauseSet) (p b : ℕ) (st : State) (l : Worklist) (r : Ready s (A
 
   -- there is room for the clauses of a place more
   pub room_left : l.listed ≤ 2912
-  room_left = omega (arith, r.room, r.count, one_decided, decided_bounded (set m p b))
+  room_left = omega (arith, r.room, st.counted, one_decided, decided_bounded (set m p b))
 
   is_marks_set : IsMarks (set m p b)
   is_marks_set =
@@ -191,15 +191,17 @@ module _ (s : ClauseSet) (p b : ℕ) (st : State) (l : Worklist) (r : Ready s (A
         ];
       }
 
-  pub weighing_all : {a' ls' : List ℕ} {n i : ℕ} → nine_kinds s ≤ i → i ≤ nine_kinds s → Weighing (nine_kinds s) i p m (set m p b) a' ls' n
-      → Ready s (λ x. ⊥) (record { marks = set m p b; sums = a'; decided = st.decided + 1 }) (record { numbers = ls'; listed = n })
-  weighing_all c d v =
+  pub counted_set : st.decided + 1 ≡ decided (set m p b)
+  counted_set = omega (arith, one_decided, st.counted)
+
+  pub weighing_all : {st' : State} {l' : Worklist} {i : ℕ} → nine_kinds s ≤ i → i ≤ nine_kinds s → st'.marks ≡ set m p b → Weighing (nine_kinds s) i p m (set m p b) st'.sums l'.numbers l'.listed
+      → Ready s (λ x. ⊥) st' l'
+  weighing_all {st'} c d e v =
       record {
-        marks = is_marks_set;
-        sums = record { long = v.long; sums = λ x h. v.done x h (omega arith) };
-        count = omega (arith, one_decided, r.count);
+        marks = subst IsMarks (sym e) is_marks_set;
+        sums = record { long = v.long; sums = λ x h. v.done x h (omega arith) ∙ ap (λ y. sum_of y (group_in x)) (sym e) };
         long = v.room;
-        room = omega (arith, v.few, r.count, nines_below s);
+        room = omega (arith, v.few, st.counted, st'.counted, one_decided, ap decided e, nines_below s);
         numbers = v.numbers;
         acting = λ x h l. ⊎_elim (λ k. absurd (omega (arith, k.0))) inr (v.acting x h l);
       }

@@ -34,7 +34,6 @@ ready_front {st = st} {l = l} {l' = l'} f e r =
     record {
       marks = r.marks;
       sums = r.sums;
-      count = r.count;
       long = f.long ∙ r.long;
       room = omega (arith, e, r.room);
       numbers = λ i h. let b : i < l.listed = omega (arith, e) in let v = r.numbers i b in (v.0, v.1, here i b ∙ v.2);
@@ -42,7 +41,7 @@ ready_front {st = st} {l = l} {l' = l'} f e r =
     }
   where
     here : (i : ℕ) → i < l.listed → get_or l'.numbers i 0 ≡ get_or l.numbers i 0
-    here i h = f.same i (omega (arith, r.room, r.count, h, decided_bounded st.marks))
+    here i h = f.same i (omega (arith, r.room, st.counted, h, decided_bounded st.marks))
 
 -- the same pairs, said otherwise
 opened_same : {m ls o : List ℕ} {n : ℕ} {D E : ℕ → ℕ → Type 0}

@@ -6,7 +6,7 @@ use Rattle.clauses.specs.declared.ClauseSet.{ClauseSet}
 use Rattle.clauses.specs.declared.Group.{Group}
 use Rattle.closure.specs.Sets.{Within as LiteralsWithin, Least}
 use Rattle.closure.specs.Closure.{Contradiction, UnitClosed}
-use Rattle.closure.specs.Marks.{has, decided, IsMarks}
+use Rattle.closure.specs.Marks.{has, IsMarks}
 use Rattle.groups.specs.declared.Kind.{Kind}
 use Rattle.groups.specs.Groups.{group_at, group_in, clause_in, kind_at, number_of, first_pair, pair_number, Pair}
 use Rattle.worklist.specs.Sums.{InSlots, SumsOk}
@@ -44,7 +44,6 @@ IsSign b = (1 ≤ b) × (b ≤ 2)
 pub record Ready (s : ClauseSet) (E : ℕ → Type 0) (st : State) (l : Worklist) : Type 0 where
   pub marks : IsMarks st.marks
   pub sums : SumsOk s st.marks st.sums
-  pub count : st.decided ≡ decided st.marks
   pub long : length l.numbers ≡ 2952
   pub room : l.listed ≤ 4 * st.decided
   pub numbers : (i : ℕ) → i < l.listed → (x : ℕ) × InSlots s x × (get_or l.numbers i 0 ≡ clause_in x)

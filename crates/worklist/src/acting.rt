@@ -2,9 +2,9 @@
 // two-literal ones, pairs, with the place that each would strike beside it. A place that is decided changes the sums of the clauses that it is
 // in, and those that come to act are listed. A place that becomes true lists its pairs, and these act at once, so that between two steps none is left.
 ghost use Rattle.std.specs.Prelude.{◌≡◌, ℕ, ◌+◌, ◌*◌, ◌≤◌, ◌<◌, length, set as update};
+ghost use Rattle.closure.specs.Marks.{decided as decisions};
 ghost use Rattle.groups.specs.Groups.{number_of, first_pair, IsRun};
 ghost use Rattle.worklist.specs.Sums.{weight as weight_of};
-ghost use Rattle.worklist.specs.Acting.{Ready, At, Popped, Struck, Undecided, IsSign, RunListed, ListedTo, PairsReady, True, Struckable, Strikes, Stepped};
 
 use clauses::ClauseSet;
 use groups::{Kind, nine_kinds, pair_table};
@@ -15,9 +15,12 @@ use groups::{Kind, nine_kinds, pair_table};
 pub struct Worklist {
     numbers: [u16; 2952],
     listed: usize,
+    ghost fits: { listed ≤ 2952 },
 }
 
 impl Worklist {
+    ghost use Rattle.worklist.specs.Acting.{Popped};
+
     // With nothing on it.
     pub fn new() -> Worklist
         ensures { result.listed ≡ 0 }
@@ -35,9 +38,8 @@ impl Worklist {
         self.listed = 0;
     }
 
-    // The clause that was listed last, which is taken off. What it asks follows from `Ready`, which each step asks anyway.
+    // The clause that was listed last, which is taken off.
     pub fn pop(&mut self) -> Option<u16>
-        requires { self.old.listed ≤ length self.old.numbers }
         ensures { Popped self.old self.new result }
     {
         if self.listed == 0 {
@@ -58,6 +60,8 @@ struct Targets {
 }
 
 impl Targets {
+    ghost use Rattle.worklist.specs.Acting.{RunListed, ListedTo};
+
     // The pairs of p with places of its group of that kind, from one place on and before another: they are written behind those that are listed,
     // and stay where they may act.
     #[tactic(auto, using(groups::proofs::Pairs::row_most, groups::proofs::Pairs::number_small, groups::proofs::Slots::place_small))]
@@ -127,9 +131,12 @@ pub struct State {
     pub marks: [u8; 729],
     pub sums: [u16; 324],
     pub decided: usize,
+    pub ghost counted: { decided ≡ decisions marks },
 }
 
 impl State {
+    ghost use Rattle.worklist.specs.Acting.{Ready, At, Struck, Undecided, IsSign, PairsReady, True, Struckable, Strikes, Stepped};
+
     // An undecided place gets a mark. Each clause that it is in is written to the list, and stays where it may act.
     #[tactic(auto, using(groups::proofs::Slots::slot_below))]
     #[inline]
@@ -139,8 +146,7 @@ impl State {
             × Ready set (λ x. ⊥) self.new list.new }
     {
         let mut n = list.listed;
-        for i in 0..nine_kinds(set) {
-            let kind = Kind::at(i);
+        for &kind in nine_kinds(set) {
             let slot = kind.slot_at(p);
             let sum = usize::from(self.sums[slot]) + weight(mark, p) - (1024 + p);
             self.sums[slot] = sum as u16;

@@ -3,7 +3,7 @@
 
 use grader::{Cause, Completions, Finished, Graded, JobFile, Outcome, Refusal, Technique, Verdict};
 
-/// Document 01's full grid.
+/// The full grid G.
 const G: &[u8; 81] =
     b"123456789456789123789123456231564897564897231897231564312645978645978312978312645";
 

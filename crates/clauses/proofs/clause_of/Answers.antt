@@ -25,10 +25,10 @@ returns-then-out-ne9 c =
     let a = c.args in
     rw (lt-leb (length (clauses_of a.set)) a.n has, ne_eqb (length a.out.now) 9 c.if-out-ne9.true)
 
-pub fill-requires : goal.fill-requires
-fill-requires c =
+pub literals_of-requires : goal.literals_of-requires
+literals_of-requires c =
     let has : c.args.n < length (clauses_of c.args.set) = omega (arith, c.clause_count.ensures, c.if-clause_count-n.false) in
-    (subst IsShape (sym c.shape-s.ensures) (shape_is c.args.n (omega (arith, has, set_long c.args.set, sizes c.args.set))), c.if-out-ne9.false)
+    subst IsShape (sym c.shape-s.ensures) (shape_is c.args.n (omega (arith, has, set_long c.args.set, sizes c.args.set)))
 
 pub returns : goal.returns
 unfolding clause_given
@@ -38,4 +38,4 @@ returns c =
     let e : clause_of c.shape-s.result ≡ get_or (clauses_of a.set) a.n [] =
     ap clause_of c.shape-s.ensures ∙ sym (clause_at a.set a.n (subst (λ m. a.n < m) (set_long a.set) has)) in
     rw (lt-leb (length (clauses_of a.set)) a.n has, eq-eqb (length a.out.now) 9 c.if-out-ne9.false)
-    λ i. (Ok ((c.length_of.ensures ∙ ap length e) i), (c.fill.ensures ∙ ap padded e) i)
+    λ i. (Ok ((c.length_of.ensures ∙ ap length e) i), (c.copy_from_slice.ensures.after ∙ c.literals_of.ensures ∙ ap padded e) i)

@@ -3,8 +3,8 @@ use mathlib.Core.Path.{refl, ◌∙◌}
 use Rattle.std.proofs.Common.{rules, tests}
 use Rattle.std.proofs.lemmas.Iterator.{YieldsList-from_range}
 use Rattle.std.proofs.lemmas.Iterator.Search.{all_from_yields_List}
+use Rattle.grid.proofs.Counting.{all_of}
 use Rattle.crowding.specs.Crowding.{confined_at}
-use Rattle.crowding.proofs.Scans.{all_of}
 use Rattle.crowding.proofs.confined.Goals as goal
 
 pub returns : goal.returns

@@ -6,7 +6,6 @@ use Rattle.branching.proofs.Test.dive.Goals as goal
 
 pub loop-p-smaller : goal.loop-p-smaller
 loop-p-smaller c =
-    let closed = c.in_ok-close_true.ensures in
     let p = c.in-Some.ensures in
-    let more = closed_more c.loop-p.state c.loop-p.invariant c.in-Some.p closed p.0 (λ e. omega (arith, e, p.1)) in
-    omega (arith, closed.state.count, more, decided_bounded c.close_true.new.state.marks)
+    let more = closed_more c.loop-p.state c.in-Some.p c.in_ok-close_true.ensures p.0 (λ e. omega (arith, e, p.1)) in
+    omega (arith, c.close_true.new.state.counted, more, decided_bounded c.close_true.new.state.marks)

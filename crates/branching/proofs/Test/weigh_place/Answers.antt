@@ -22,7 +22,7 @@ use Rattle.branching.proofs.Test.weigh_place.Goals as goal
 pub overflow_sub-with : goal.overflow_sub-with
 overflow_sub-with c =
     let s = c.in-Ok.ensures in
-    omega (arith, s.state.count, c.requires.0.count, decided_rises c.args.state.now.marks c.close_true.new.state.marks (λ l t. s.answer.holds l (inl t)))
+    omega (arith, c.close_true.new.state.counted, c.args.state.now.counted, decided_rises c.args.state.now.marks c.close_true.new.state.marks (λ l t. s.answer.holds l (inl t)))
 
 pub close_with-requires : goal.close_with-requires
 close_with-requires c =

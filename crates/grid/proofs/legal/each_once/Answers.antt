@@ -1,18 +1,17 @@
--- A scan of the houses: those before `house` have each digit once.
-use mathlib.Core.Path.{sym, ◌∙◌}
-use native.Mathlib.Omega.{arith}
-use Rattle.grid.proofs.Counting.{passed_none, passed_more, passed_all, one_fails}
+-- The houses are looked at one by one.
+use mathlib.Core.Path.{refl, ◌∙◌}
+use mathlib.Core.Bool.{Bool}
+use Prim.Native.Nat.{ℕ}
+use lib.Dec.{eqb}
+use Rattle.std.proofs.Common.{rules, tests}
+use Rattle.std.proofs.lemmas.Iterator.{YieldsList-from_range}
+use Rattle.std.proofs.lemmas.Iterator.Search.{all_from_yields_List}
+use Rattle.grid.specs.Counting.{all}
+use Rattle.grid.specs.Completion.{times}
+use Rattle.grid.proofs.Counting.{all_of}
 use Rattle.grid.proofs.legal.each_once.Goals as goal
 
-pub returns-then-not-house_once : goal.returns-then-not-house_once
-returns-then-not-house_once c = one_fails _ 27 c.loop-house.house (omega arith) (sym c.house_once.ensures ∙ c.if-not-house_once.true)
-
-pub loop-house-preserved : goal.loop-house-preserved
-loop-house-preserved c =
-    passed_more _ 27 _ c.loop-house.invariant (omega arith) (sym c.house_once.ensures ∙ c.if-not-house_once.false)
-
 pub returns : goal.returns
-returns c = passed_all _ 27 _ c.loop-house.invariant (omega arith)
-
-pub loop-house-init : goal.loop-house-init
-loop-house-init c = passed_none _ 27
+returns c =
+    let p : ℕ → Bool = λ h. all 9 (λ d. eqb (times c.args.candidate.now h d) 1) in
+    all_from_yields_List p _ _ _ c.all.ensures.ran (YieldsList-from_range 0 27 27 refl refl) (λ x b q k. search (rules, tests)) ∙ all_of p 27

@@ -1,23 +1,17 @@
--- A scan of the cells: those before `cell` have digits.
-use mathlib.Core.Path.{sym, ◌∙◌}
-use native.Mathlib.Omega.{arith}
-use borrow.Author.Tests.{eq-eqb, ne_eqb}
+-- The bytes are looked at one by one.
+use mathlib.Core.Path.{◌∙◌}
+use borrow.Author.Tests.{eq-eqb}
 use lib.ListN.{length}
-use Rattle.grid.proofs.Counting.{passed_none, passed_more, passed_all, one_fails}
+use Rattle.std.proofs.Common.{rules, tests}
+use Rattle.std.proofs.lemmas.Iterator.{YieldsList-from_slice}
+use Rattle.std.proofs.lemmas.Iterator.Search.{all_from_yields_List}
+use Rattle.grid.specs.Grid.{is_digit}
+use Rattle.grid.proofs.Counting.{all_in}
 use Rattle.grid.proofs.legal.is_full.Goals as goal
 
-pub returns-then-candidate-ne81 : goal.returns-then-candidate-ne81
-returns-then-candidate-ne81 c = rw (ne_eqb (length c.args.candidate.now) 81 c.if-candidate-ne81.true)
-
-pub returns-then-not-is_digit : goal.returns-then-not-is_digit
-returns-then-not-is_digit c = rw (eq-eqb (length c.args.candidate.now) 81 c.if-candidate-ne81.false)
-    (one_fails _ 81 c.loop-cell.cell (omega arith) (sym c.is_digit.ensures ∙ c.if-not-is_digit.true))
-
-pub loop-cell-preserved : goal.loop-cell-preserved
-loop-cell-preserved c = passed_more _ 81 _ c.loop-cell.invariant (omega arith) (sym c.is_digit.ensures ∙ c.if-not-is_digit.false)
-
-pub returns : goal.returns
-returns c = rw (eq-eqb (length c.args.candidate.now) 81 c.if-candidate-ne81.false) (passed_all _ 81 _ c.loop-cell.invariant (omega arith))
-
-pub loop-cell-init : goal.loop-cell-init
-loop-cell-init c = passed_none _ 81
+pub returns-then-candidate-eq81 : goal.returns-then-candidate-eq81
+returns-then-candidate-eq81 c =
+    let l = c.args.candidate.now in
+    let e = c.if-candidate-eq81.true in
+    rw (eq-eqb (length l) 81 e)
+    (all_from_yields_List is_digit _ _ _ c.all.ensures.ran (YieldsList-from_slice l cc) (λ x b q k. search (rules, tests)) ∙ all_in is_digit l 81 e)

@@ -1,17 +1,16 @@
--- A scan of the cells: those before `cell` keep their givens.
-use mathlib.Core.Path.{sym, ◌∙◌}
-use native.Mathlib.Omega.{arith}
-use Rattle.grid.proofs.Counting.{passed_none, passed_more, passed_all, one_fails}
+-- The cells are looked at one by one.
+use mathlib.Core.Path.{refl, ◌∙◌}
+use mathlib.Core.Bool.{Bool, not, ◌||◌}
+use Prim.Native.Nat.{ℕ}
+use lib.Dec.{eqb}
+use Rattle.std.proofs.Common.{rules, tests}
+use Rattle.std.proofs.lemmas.Iterator.{YieldsList-from_range}
+use Rattle.std.proofs.lemmas.Iterator.Search.{all_from_yields_List}
+use Rattle.grid.specs.Grid.{byte, is_digit}
+use Rattle.grid.proofs.Counting.{all_of}
 use Rattle.grid.proofs.legal.keeps_givens.Goals as goal
 
-pub returns-then-not-keeps_given : goal.returns-then-not-keeps_given
-returns-then-not-keeps_given c = one_fails _ 81 c.loop-cell.cell (omega arith) (sym c.keeps_given.ensures ∙ c.if-not-keeps_given.true)
-
-pub loop-cell-preserved : goal.loop-cell-preserved
-loop-cell-preserved c = passed_more _ 81 _ c.loop-cell.invariant (omega arith) (sym c.keeps_given.ensures ∙ c.if-not-keeps_given.false)
-
 pub returns : goal.returns
-returns c = passed_all _ 81 _ c.loop-cell.invariant (omega arith)
-
-pub loop-cell-init : goal.loop-cell-init
-loop-cell-init c = passed_none _ 81
+returns c =
+    let p : ℕ → Bool = λ n. not (is_digit (byte c.args.grid.now n)) || eqb (byte c.args.candidate.now n) (byte c.args.grid.now n) in
+    all_from_yields_List p _ _ _ c.all.ensures.ran (YieldsList-from_range 0 81 81 refl refl) (λ x b q k. search (rules, tests)) ∙ all_of p 81

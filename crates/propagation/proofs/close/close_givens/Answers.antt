@@ -1,5 +1,5 @@
 -- At each cell the marks are the unit closure of the givens before it.
-use mathlib.Core.Path.{◌≡◌, sym, subst, ◌∙◌}
+use mathlib.Core.Path.{◌≡◌, refl, sym, subst, ◌∙◌}
 use mathlib.Core.Bool.{Bool, true}
 use mathlib.Core.List.{List, Memᴰ}
 use Prim.Native.Nat.{ℕ, ◌+◌, ◌*◌, ◌-◌, ◌≤◌, ◌<◌}
@@ -20,7 +20,7 @@ use Rattle.closure.proofs.Closure.{contradiction_mono}
 use Rattle.closure.proofs.Propagation.{closes_same}
 use Rattle.propagation.specs.Steps.{ComesTo}
 use Rattle.propagation.proofs.Closing.{comes_err}
-use Rattle.propagation.proofs.Givens.{Before, blank_state, before_none, before_skip, before_given, before_all, before_some}
+use Rattle.propagation.proofs.Givens.{Before, none_decided, blank_state, before_none, before_skip, before_given, before_all, before_some}
 use Rattle.propagation.proofs.close.close_givens.Goals as goal
 use Rattle.propagation.proofs.close.close_givens.Goals.{then-is_digit+in_ok-close_true, else-is_digit}
 
@@ -32,10 +32,13 @@ module _ (g : List ℕ) (i : ℕ) {b : Bool} (e : b ≡ is_digit (byte g i)) (t 
   place_below : i < 81 → (49 ≤ byte g i) × (9 * i + (byte g i - 49) < 729)
   place_below h = let w = (digit_iff (byte g i)).0 digit in (w.0, omega (arith, w.1))
 
+pub invariant_of-state : goal.invariant_of-state
+invariant_of-state c = record { counted = none_decided }
+
 pub loop-i-init : goal.loop-i-init
 loop-i-init c =
     let a = c.args in
-    record { answer = before_none a.set a.grid.now; state = blank_state a.set c.blank_sums.ensures }
+    record { answer = before_none a.set a.grid.now; state = blank_state a.set _ refl c.blank_sums.ensures }
 
 pub overflow_sub-byte : goal.overflow_sub-byte
 overflow_sub-byte c = omega (arith, (place_below c.args.grid.now c.loop-i.i c.is_digit.ensures c.if-is_digit.true c.loop-i-test.true).0)

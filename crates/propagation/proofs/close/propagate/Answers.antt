@@ -3,12 +3,9 @@ use mathlib.Core.Logic.{⊎_elim}
 use native.Mathlib.Omega.{arith}
 use Rattle.closure.proofs.Marks.{decided_bounded}
 use Rattle.propagation.specs.Steps.{state_left}
-use Rattle.propagation.proofs.Looking.{taken, listed_long, stepped_more, clashes_back}
+use Rattle.propagation.proofs.Looking.{taken, stepped_more, clashes_back}
 use Rattle.propagation.proofs.Closing.{comes_err, state_left_err, stepped_closes}
 use Rattle.propagation.proofs.close.propagate.Goals as goal
-
-pub pop-requires : goal.pop-requires
-pop-requires c = listed_long c.loop-clause.invariant.ready
 
 pub look-requires : goal.look-requires
 look-requires c = let v = c.loop-clause.invariant in let t = taken c.args.set v.ready c.in-Some.ensures in (t.0, v.struck, t.1)
@@ -18,7 +15,7 @@ loop-clause-smaller c =
     let v = c.in_ok-look.ensures in
     let r = v.0.ready in
     let p = c.in-Some.ensures in
-    ⊎_elim (λ h. omega (arith, h, r.room, r.count, decided_bounded c.look.new.state.marks)) (λ h. omega (arith, h.0, h.1, p.0)) v.1
+    ⊎_elim (λ h. omega (arith, h, r.room, c.look.new.state.counted, decided_bounded c.look.new.state.marks)) (λ h. omega (arith, h.0, h.1, p.0)) v.1
 
 pub loop-clause-preserved : goal.loop-clause-preserved
 loop-clause-preserved c = stepped_more c.args.set c.loop-clause.invariant c.in_ok-look.ensures.0

@@ -48,12 +48,12 @@ module _ (j : Job) (p : Progress) (l : ℤ) (open_ : T (is_decided p.state.marks
 
   stepped_solved : (q : Progress) → Tried j (counted p) l q (Ok true) → q.state.decided ≡ 729 → Stepped j p l q (Err Solved)
   stepped_solved q t e =
-      record { step = λ f. ap (λ n. ended (solved q.state.marks n)) t.count ∙ next_solved p.state.marks q.state.marks p.count f (sym t.walking.state.count ∙ e) ∙ tried _ t.step f; walking = tt }
+      record { step = λ f. ap (λ n. ended (solved q.state.marks n)) t.count ∙ next_solved p.state.marks q.state.marks p.count f (sym q.state.counted ∙ e) ∙ tried _ t.step f; walking = tt }
 
   stepped_more : (q : Progress) → Tried j (counted p) l q (Ok true) → (q.state.decided ≡ 729 → ⊥) → Stepped j p l q (Ok true)
   stepped_more q t e =
       record {
-        step = λ f. ap (λ n. walked q.state.marks n true) t.count ∙ next_more p.state.marks q.state.marks p.count f (λ z. e (t.walking.state.count ∙ z)) ∙ tried _ t.step f;
+        step = λ f. ap (λ n. walked q.state.marks n true) t.count ∙ next_more p.state.marks q.state.marks p.count f (λ z. e (q.state.counted ∙ z)) ∙ tried _ t.step f;
         walking = t.walking;
       }
 

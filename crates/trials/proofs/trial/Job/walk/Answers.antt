@@ -38,7 +38,7 @@ walked_err j p q o e (Err y) x = record { walk = ap (λ z. ended (ended_at z q.s
 pub next-requires : goal.next-requires
 next-requires c =
     let l = c.loop-literal in
-    (l.invariant.0, subst Literal (sym (read (get_or c.args.self.now.order.entries.now l.literal-index (pos 0)) (record { sfits = omega arith }))) (no_other_literals c.args.self.now.order.entries.now c.args.self.now.order.literals l.literal-index c.loop-literal-test.true))
+    (l.invariant.0, subst Literal (sym (read (get_or c.args.self.now.order.entries.now l.literal-index (pos 0)) (record { sfits = omega arith }))) (no_other_literals c.args.self.now.order.entries.now (omega (arith, c.args.self.now.order.literals)) l.literal-index c.loop-literal-test.true))
 
 pub returns-in_err-failed : goal.returns-in_err-failed
 returns-in_err-failed c =

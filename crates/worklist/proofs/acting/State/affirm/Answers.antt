@@ -34,5 +34,5 @@ returns c =
       affirmed a.set m a.p c.requires.0.marks c.requires.2 c.requires.1 v.opened
           (subst (λ m. Strikes a.set (Struckable t.new.self) m c.strike_all.new.self c.strike_all.new.list) e.0 w)
           (subst IsMarks e.0 e.2.marks),
-      omega (arith, e.1, e.2.count, w.ready.count, decided_rises c.assign.new.self.marks c.strike_all.new.self.marks w.keeps),
+      omega (arith, e.1, c.assign.new.self.counted, c.strike_all.new.self.counted, decided_rises c.assign.new.self.marks c.strike_all.new.self.marks w.keeps),
     )

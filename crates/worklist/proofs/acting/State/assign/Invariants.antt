@@ -1,17 +1,16 @@
 -- The sums follow kind by kind.
 use mathlib.Core.Path.{◌≡◌}
 use Prim.Native.Nat.{◌+◌, ◌≤◌}
-use lib.ListN.{set}
+use lib.ListN.{length, set}
 use Rattle.worklist.proofs.Assigning.{Weighing}
 use Rattle.worklist.proofs.acting.State.assign.Given as goal
 
-abbrev pub invariant-loop-i : goal.invariant-loop-i
-invariant-loop-i l =
+abbrev pub invariant-loop-kind : goal.invariant-loop-kind
+invariant-loop-kind l =
     let m = l.fn.self.marks in
     record {
-      kinds : l.i-end ≤ 4;
-      room : l.n ≤ 2912 + l.i;
+      kinds : length l.kind-items ≤ 4;
+      room : l.n ≤ 2912 + l.kind-index;
       marks : l.self.marks ≡ m;
-      count : l.self.decided ≡ l.fn.self.decided;
-      sums : Weighing l.i-end l.i l.p m (set m l.p l.mark) l.self.sums l.list.numbers l.n;
+      sums : Weighing (length l.kind-items) l.kind-index l.p m (set m l.p l.mark) l.self.sums l.list.numbers l.n;
     }
