@@ -5,7 +5,7 @@
 #![tactic(auto)]
 
 ghost use Rattle.std.specs.Prelude.{◌≡◌, ◌+◌, ◌*◌, ◌-◌, ◌≤◌, length};
-ghost use Rattle.batch.specs.Call.{is_batch, lent_check, grid_at, job_end_of, jobs_of, batch_call};
+ghost use Rattle.batch.specs.Call.{is_batch, lent_check, job_end_of, jobs_of, batch_call};
 ghost use Rattle.batch.specs.Parts.{Lent, Filled, AllFilled};
 
 use grid::{Refusal, check_bytes};
@@ -53,19 +53,10 @@ fn run_one(
     ensures { Filled (job_end_of technique order.now.entries.now grid.now (ceiling - made)) made marks.new numbers.new result }
 {
     let ended = run(technique, grid, order, ceiling - made);
-    let end = finish(ended, marks);
+    let end = finish(ended, marks.as_mut_array().unwrap());
     numbers[0] = end.outcome.number();
     numbers[1] = end.count;
     made + end.count
-}
-
-// The i-th grid of a batch.
-fn grid_at(grids: &[u8], i: usize) -> &[u8; 81]
-    requires { 81 * i + 81 ≤ length grids.now }
-    ensures { result.now ≡ grid_at grids.now i }
-{
-    let grid = &grids[81 * i..81 * i + 81];
-    <&[u8; 81]>::try_from(grid).unwrap()
 }
 
 // The jobs of a batch that is not refused.
@@ -87,7 +78,7 @@ fn run_each(
         let n = 2 * i;
         made = run_one(
             technique,
-            grid_at(grids, i),
+            grids[81 * i..].first_chunk().unwrap(),
             order,
             ceiling,
             made,

@@ -1,6 +1,6 @@
 // Where a test of a state branches: what is found of it first, and on which group of nine places, of which a full grid makes one true, the tree
-// below looks smallest. A plain look takes the cell with the fewest digits left. A survey first dives for a full grid; then each place is tried,
-// and what the trial decides tells how large the tree below it may be.
+// below looks smallest. A plain look takes the cell with the fewest digits left. A survey first looks for a crowded house and dives for a full grid; then
+// each place is tried, and what the trial decides tells how large the tree below it may be.
 #![tactic(auto)]
 
 ghost use Rattle.std.specs.Prelude.{◌≡◌, ◌<◌, IfSome, get_or, replicate};
@@ -43,24 +43,15 @@ fn digits_left(marks: &[u8; 729], cell: usize) -> usize
     left
 }
 
-// The first open cell with the fewest digits left. Closed marks leave at least two digits in an open cell, so that the look ends at a cell with
-// two. It is one walk: with a walk for each number of digits, by `find_map` and `find`, a test of a state takes 7% longer.
+// The first open cell with the fewest digits left.
 fn narrowest(marks: &[u8; 729]) -> Option<usize>
     ensures { IfSome result (λ cell. cell < 81) }
 {
-    let mut narrowest = None;
-    let mut fewest = usize::MAX;
-    for cell in 0..81 {
-        let left = digits_left(marks, cell);
-        if left == 2 {
-            return Some(cell);
-        }
-        if 0 < left && left < fewest {
-            narrowest = Some(cell);
-            fewest = left;
-        }
-    }
-    narrowest
+    (0..81)
+        .map(|cell| (digits_left(marks, cell), cell))
+        .filter(|(left, _)| 0 < *left)
+        .min_by_key(|(left, _)| *left)
+        .map(|(_, cell)| cell)
 }
 
 // The first undecided place of that cell.

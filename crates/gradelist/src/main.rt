@@ -2,11 +2,12 @@
 // library's; here bytes are read, kept until their line ends, and written, in large pieces where input comes in such.
 #![tactic(auto)]
 
-ghost use Rattle.std.specs.Prelude.{◌≡◌, ◌≤◌, length};
+ghost use Rattle.std.specs.Prelude.{◌≡◌};
+ghost use Rattle.arrayvec.specs.ArrayVec.{array_vec_len};
 
-use std::io::Read;
+use arrayvec::ArrayVec;
+use std::io::{self, Read};
 use std::process::ExitCode;
-use std::{io, mem};
 
 // A read or a write has failed, and standard error says so.
 #[derive(Clone, Copy)]
@@ -24,115 +25,67 @@ fn write(rt: &(impl Print + Eprint), bytes: &[u8]) -> Result<(), Failed> {
         .map_err(|error| tell(rt, "standard output", error))
 }
 
-// The output lines that wait to be written, in a fixed buffer: std's BufWriter allocates, and memory that runs out would be one more way to fail.
-#[derive(Drop)]
-struct Output {
-    bytes: [u8; 4096],
-    waiting: usize,
-    ghost fits: { waiting ≤ 4096 },
-}
-
-impl Output {
-    fn new() -> Self {
-        Output {
-            bytes: [0; 4096],
-            waiting: 0,
-        }
-    }
-
-    // Writes what waits.
-    fn flush(&mut self, rt: &(impl Print + Eprint)) -> Result<(), Failed>
-        ensures { self.new.waiting ≡ 0 }
-    {
-        let waiting = mem::replace(&mut self.waiting, 0);
-        write(rt, &self.bytes[..waiting])
-    }
-
-    // Adds an output line to what waits, which is written first where a line may find no room.
-    fn add(&mut self, rt: &(impl Print + Eprint), text: &[u8]) -> Result<(), Failed>
-        requires { length text.now ≤ 64 }
-    {
-        if 4032 < self.waiting {
-            self.flush(rt)?;
-        }
-        let end = self.waiting + text.len();
-        self.bytes[self.waiting..end].copy_from_slice(text);
-        self.waiting = end;
-        Ok(())
-    }
-}
-
-// The line that is being read: its number, as far as numbers go, and its first 82 bytes, which tell any longer line. Fixed memory,
-// however long it is.
-#[derive(Drop)]
-struct Line {
-    number: u64,
-    bytes: [u8; 82],
-    kept: usize,
-    ghost fits: { kept ≤ 82 },
-}
-
-impl Line {
-    fn first() -> Self {
-        Line {
-            number: 1,
-            bytes: [0; 82],
-            kept: 0,
-        }
-    }
-
-    // Takes in a byte: bytes past the 82nd are only passed over.
-    fn keep(&mut self, byte: u8) {
-        if self.kept < 82 {
-            self.bytes[self.kept] = byte;
-            self.kept += 1;
-        }
-    }
-
-    // Ends the line, whose output line joins what waits, and begins the next.
-    fn end(&mut self, rt: &(impl Print + Eprint), out: &mut Output) -> Result<(), Failed> {
-        let mut text = [0; 64];
-        let n = listing::list_line(self.number, &self.bytes[..self.kept], &mut text);
-        self.number = self.number.saturating_add(1);
-        self.kept = 0;
-        out.add(rt, &text[..n])
-    }
-}
-
-// What is read and what is to be written.
+// What is read and what is to be written, in fixed memory: std's BufWriter allocates, and memory that runs out would be one more way to fail.
 #[derive(Drop)]
 struct Lister {
-    line: Line,
-    out: Output,
+    // The number of the line that is being read, as far as numbers go.
+    number: u64,
+    // Its first 82 bytes, which tell any longer line.
+    line: ArrayVec<u8, 82>,
+    // The output lines that wait to be written.
+    out: ArrayVec<u8, 4096>,
 }
 
 impl Lister {
-    // Takes in a chunk of input and writes what it gives.
+    // Writes what waits.
+    fn flush(&mut self, rt: &(impl Print + Eprint)) -> Result<(), Failed>
+        ensures { array_vec_len self.new.out ≡ 0 }
+    {
+        let written = write(rt, &self.out);
+        self.out.clear();
+        written
+    }
+
+    // Ends the line, whose output line joins what waits, and begins the next. What waits is written first where the output line has no room.
+    fn end(&mut self, rt: &(impl Print + Eprint)) -> Result<(), Failed> {
+        let mut text = [0; 64];
+        let n = listing::list_line(self.number, &self.line, &mut text);
+        self.number = self.number.saturating_add(1);
+        self.line.clear();
+        if self.out.remaining_capacity() < n {
+            self.flush(rt)?;
+        }
+        self.out.try_extend_from_slice(&text[..n]).unwrap();
+        Ok(())
+    }
+
+    // Takes in a chunk of input and writes what it gives. Bytes of a line past the 82nd are only passed over.
     fn take(&mut self, rt: &(impl Print + Eprint), chunk: &[u8]) -> Result<(), Failed> {
         for &byte in chunk {
             if byte == b'\n' {
-                self.line.end(rt, &mut self.out)?;
+                self.end(rt)?;
             } else {
-                self.line.keep(byte);
+                let _ = self.line.try_push(byte);
             }
         }
-        self.out.flush(rt)
+        self.flush(rt)
     }
 
     // Ends the last line, where its newline is missing.
     fn finish(&mut self, rt: &(impl Print + Eprint)) -> Result<(), Failed> {
-        if 0 < self.line.kept {
-            self.line.end(rt, &mut self.out)?;
+        if !self.line.is_empty() {
+            self.end(rt)?;
         }
-        self.out.flush(rt)
+        self.flush(rt)
     }
 }
 
 // Lists the input. A failure ends it, but what came of a line before a read failed is answered.
 fn list(rt: &(impl Print + Eprint), input: &mut impl Read) -> Result<(), Failed> {
     let mut lister = Lister {
-        line: Line::first(),
-        out: Output::new(),
+        number: 1,
+        line: ArrayVec::new(),
+        out: ArrayVec::new(),
     };
     let mut chunk = [0; 65536];
     // Where the header cannot be written, the first read is the last.

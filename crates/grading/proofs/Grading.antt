@@ -71,18 +71,18 @@ module _ (g : List ℕ) (o : List ℤ) (ceiling : ℕ) where
   rated u = rate_from g o ceiling ladder 0
 
   -- one completion
-  pub graded_one : (x y : List ℕ) (r : Rating) → One x ≡ found_of (completions g) → y ≡ x → r ≡ rated tt → ◌≡◌ {A = Given} (Ok r, y) (grade_of g o ceiling)
+  pub graded_one : (x : List ℕ) (r : Rating) → One x ≡ found_of (completions g) → r ≡ rated tt → ◌≡◌ {A = Given} (Ok r, x) (grade_of g o ceiling)
   unfolding grade_of
-  graded_one x y r e q p = rw (p, q) (by_one rated (completions g) x (sym e))
+  graded_one x r e p = rw p (by_one rated (completions g) x (sym e))
 
   -- none, or several
-  pub graded_none : (y : List ℕ) (v : Verdict) → Nothing ≡ found_of (completions g) → y ≡ zeros → v ≡ NoCompletion → ◌≡◌ {A = Given} (Ok (rating v 0), y) (grade_of g o ceiling)
+  pub graded_none : (v : Verdict) → Nothing ≡ found_of (completions g) → v ≡ NoCompletion → ◌≡◌ {A = Given} (Ok (rating v 0), zeros) (grade_of g o ceiling)
   unfolding grade_of
-  graded_none y v e q p = rw (p, q) (by_none rated (completions g) (sym e))
+  graded_none v e p = rw p (by_none rated (completions g) (sym e))
 
-  pub graded_several : (a b y : List ℕ) (v : Verdict) → Several a b ≡ found_of (completions g) → y ≡ zeros → v ≡ SeveralCompletions → ◌≡◌ {A = Given} (Ok (rating v 0), y) (grade_of g o ceiling)
+  pub graded_several : (a b : List ℕ) (v : Verdict) → Several a b ≡ found_of (completions g) → v ≡ SeveralCompletions → ◌≡◌ {A = Given} (Ok (rating v 0), zeros) (grade_of g o ceiling)
   unfolding grade_of
-  graded_several a b y v e q p = rw (p, q) (by_several rated (completions g) a b (sym e))
+  graded_several a b v e p = rw p (by_several rated (completions g) a b (sym e))
 
 -- the literals that the marks of a legal completion name are its own
 pub marks_complete : (g b m : List ℕ) → Legal g b → MarksOf b m → CompletionOk g m

@@ -5,7 +5,7 @@
 //     Verdict    how a grading ends, and with how many trials, a Rating
 #![tactic(auto)]
 
-ghost use Rattle.std.specs.Prelude.{◌≡◌, cond, suc, ◌<◌, length, Ok};
+ghost use Rattle.std.specs.Prelude.{◌≡◌, cond, suc, ◌<◌, Ok};
 ghost use Rattle.clauses.specs.Models.{truth_of};
 ghost use Rattle.trials.specs.Known.{CompletionOk};
 ghost use Rattle.grading.specs.Grade.{number_of, ladder, rate_from, MarksOf, grade_of, grade_call};
@@ -114,20 +114,19 @@ fn climb(grid: &[u8; 81], order: &Order, ceiling: u32, possible: &[u8; 729]) -> 
     }
 }
 
-// A grading that is not refused. The completion's buffer stays a slice, as hosts lend it.
-fn rate(grid: &[u8; 81], order: &Order, ceiling: u32, completion: &mut [u8]) -> Rating
-    requires { length completion.old ≡ 81 }
+// A grading that is not refused.
+fn rate(grid: &[u8; 81], order: &Order, ceiling: u32, completion: &mut [u8; 81]) -> Rating
     ensures { (Ok result, completion.new) ≡ grade_of grid.now order.now.entries.now ceiling }
 {
     let verdict = match find(grid) {
         Found::One(only) => {
-            completion.copy_from_slice(&only);
+            *completion = only;
             return climb(grid, order, ceiling, &marks_of(&only));
         }
         Found::Nothing => Verdict::NoCompletion,
         Found::Several(_, _) => Verdict::SeveralCompletions,
     };
-    completion.fill(0);
+    *completion = [0; 81];
     Rating { verdict, trials: 0 }
 }
 
@@ -141,9 +140,9 @@ pub fn grade(
 ) -> Result<Rating, Refusal>
     ensures { (result, completion.new) ≡ grade_call grid.now order.now ceiling completion.old }
 {
-    if completion.len() != 81 {
+    let Some(completion) = completion.as_mut_array() else {
         return Err(Refusal::BufferLength);
-    }
+    };
     let keyed_grid = keyed(grid)?;
     let checked = Order::checked(order)?;
     Ok(rate(keyed_grid, &checked, ceiling, completion))

@@ -69,7 +69,6 @@ impl Kind {
     // The row of place p in the table of pairs, for its group of this kind.
     #[tactic(auto, unfolding(crate::specs::Groups::row_at, crate::specs::Groups::index_at))]
     pub fn row_at(self, p: usize) -> usize
-        requires { p < 729 }
         ensures { result ≡ row_at self p }
     {
         match self {
@@ -105,7 +104,6 @@ impl Kind {
     // takes 4% longer.
     #[tactic(auto, using(crate::proofs::Slots::box_row, crate::proofs::Slots::box_column), unfolding(crate::specs::Groups::slot_at))]
     pub fn slot_at(self, p: usize) -> usize
-        requires { p < 729 }
         ensures { result ≡ slot_at self p }
     {
         match self {

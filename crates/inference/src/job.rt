@@ -1,5 +1,5 @@
 // The job call: the unit closure of a grid's givens, then trials, after the checks of what is lent.
-ghost use Rattle.std.specs.Prelude.{◌≡◌, length, Ok};
+ghost use Rattle.std.specs.Prelude.{◌≡◌, Ok};
 ghost use Rattle.clauses.specs.Clauses.{clauses_of};
 ghost use Rattle.clauses.specs.Models.{givens};
 ghost use Rattle.closure.specs.Job.{job_end};
@@ -75,9 +75,8 @@ pub fn run(technique: Technique, grid: &[u8; 81], order: &Order, ceiling: u32) -
     run_with(technique, grid, order, ceiling, &none)
 }
 
-// The end of a job, whose marks are written out, as hosts lend them: all 0 after a contradiction.
-pub fn finish(ended: Ended, marks: &mut [u8]) -> End
-    requires { length marks.old ≡ 729 }
+// The end of a job, whose marks are written out: all 0 after a contradiction.
+pub fn finish(ended: Ended, marks: &mut [u8; 729]) -> End
     ensures { (Ok result, marks.new) ≡ finished (end_of ended.end ended.marks) }
 {
     match ended.end.outcome {
@@ -98,9 +97,9 @@ pub fn job(
 ) -> Result<End, Refusal>
     ensures { (result, marks.new) ≡ job_call grid.now technique order.now ceiling marks.old }
 {
-    if marks.len() != 729 {
+    let Some(marks) = marks.as_mut_array() else {
         return Err(Refusal::MarksLength);
-    }
+    };
     let keyed_grid = keyed(grid)?;
     let known = Technique::try_from(technique)?;
     let checked = Order::checked(order)?;

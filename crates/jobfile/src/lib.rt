@@ -4,7 +4,7 @@
 //     Settings     what it answers
 #![tactic(auto)]
 
-ghost use Rattle.std.specs.Prelude.{◌≡◌, length};
+ghost use Rattle.std.specs.Prelude.{◌≡◌};
 ghost use Rattle.jobfile.specs.Contents.{entries_in, order_in};
 ghost use Rattle.jobfile.specs.Call.{contents_check, read_bodies, read_call};
 
@@ -14,10 +14,10 @@ use orders::technique::Technique;
 use pieces::number::signed_at;
 use pieces::piece::{Bodies, read_pieces};
 
-// What a job file sets: the technique, by the number that a job call takes, and the ceiling.
+// What a job file sets.
 #[derive(Clone, Copy, Debug, PartialEq, Eq)]
 pub struct Settings {
-    pub technique: u32,
+    pub technique: Technique,
     pub ceiling: u32,
 }
 
@@ -41,26 +41,33 @@ fn order_in(body: &Option<[u8; 2916]>) -> [i16; ENTRIES]
 
 // The keyer's check of a grid, then the operator's of a technique's number and of an order: refusals 12, 21, 23 and 24.
 #[tactic(auto, unfolding(crate::specs::Call::contents_check))]
-fn check_contents(grid: &[u8], technique: u32, order: &[i16]) -> Result<(), Refusal>
+fn check_contents(
+    grid: &[u8; 81],
+    technique: u8,
+    order: &[i16; ENTRIES],
+) -> Result<Technique, Refusal>
     ensures { result ≡ contents_check grid.now technique order.now }
 {
     check_grid(grid)?;
-    Technique::try_from(technique)?;
-    check_order(order)
+    let technique = Technique::try_from(u32::from(technique))?;
+    check_order(order)?;
+    Ok(technique)
 }
 
-// What the bodies say, once the pieces are found: it is checked, and only then fills what is lent, which stays slices, as hosts lend them.
+// What the bodies say, once the pieces are found: it is checked, and only then fills what is lent.
 #[tactic(auto, unfolding(crate::specs::Call::read_bodies))]
-fn read_bodies(bodies: &Bodies, grid: &mut [u8], order: &mut [i16]) -> Result<Settings, Refusal>
-    requires { (length grid.old ≡ 81) × (length order.old ≡ 1458) }
+fn read_bodies(
+    bodies: &Bodies,
+    grid: &mut [u8; 81],
+    order: &mut [i16; ENTRIES],
+) -> Result<Settings, Refusal>
     ensures { (result, grid.new, order.new)
         ≡ read_bodies bodies.now grid.old order.old }
 {
-    let technique = u32::from(bodies.technique);
     let entries = order_in(&bodies.order);
-    check_contents(&bodies.grid, technique, &entries)?;
-    grid.copy_from_slice(&bodies.grid);
-    order.copy_from_slice(&entries);
+    let technique = check_contents(&bodies.grid, bodies.technique, &entries)?;
+    *grid = bodies.grid;
+    *order = entries;
     Ok(Settings {
         technique,
         ceiling: bodies.ceiling.unwrap_or(DEFAULT_CEILING),
@@ -74,11 +81,11 @@ pub fn read(file: &[u8], grid: &mut [u8], order: &mut [i16]) -> Result<Settings,
     ensures { (result, grid.new, order.new)
         ≡ read_call file.now grid.old order.old }
 {
-    if grid.len() != 81 {
+    let Some(grid) = grid.as_mut_array() else {
         return Err(Refusal::BufferLength);
-    }
-    if order.len() != ENTRIES {
+    };
+    let Some(order) = order.as_mut_array() else {
         return Err(Refusal::OrderBuffer);
-    }
+    };
     read_bodies(&read_pieces(file)?, grid, order)
 }

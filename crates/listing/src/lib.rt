@@ -4,13 +4,15 @@
 //     list_line    an output line of a listing
 #![tactic(auto)]
 
-ghost use Rattle.std.specs.Prelude.{◌≡◌, ◌∷◌, [], ◌++◌, ◌+◌, ◌≤◌, ◌<◌, List, ℕ, length, take};
-ghost use Rattle.listing.specs.Listing.{header_line, decimal, field, shown, listed, put};
+ghost use Rattle.std.specs.Prelude.{◌≡◌, ◌++◌, ◌+◌, ◌≤◌, length};
+ghost use Rattle.arrayvec.specs.ArrayVec.{array_vec_len};
+ghost use Rattle.listing.specs.Listing.{header_line, field, shown, listed, put};
 
+use arrayvec::ArrayVec;
 use grading::{Rating, grade};
 use grid::Refusal;
+use itoa::Buffer;
 use orders::order::{DEFAULT_CEILING, default_order};
-use std::marker::Model;
 
 // The header of a listing.
 pub const HEADER: [u8; 20] = *b"line verdict trials\n";
@@ -22,90 +24,35 @@ pub fn header() -> [u8; 20]
     HEADER
 }
 
-// An output line as it is written, in fixed memory that has room for any.
-#[derive(Drop)]
-struct Text {
-    bytes: [u8; 64],
-    len: usize,
-}
-
-impl Model for Text {
-    ghost Value = { List ℕ };
-
-    ghost view = { λ t. take t.len t.bytes };
-
-    ghost invariant = { λ t. t.len ≤ 64 };
-}
-
-impl Text {
-    fn new() -> Self
-        ensures { result ≡ [] }
-    {
-        Text {
-            bytes: [0; 64],
-            len: 0,
-        }
-    }
-
-    // Writes a byte.
-    fn byte(&mut self, byte: u8)
-        requires { length self.old < 64 }
-        ensures { self.new ≡ self.old ++ (byte ∷ []) }
-    {
-        self.bytes[self.len] = byte;
-        self.len += 1;
-    }
-
-    // Writes a number in decimal. The last digit comes after the others, so they are written by a call of the same function; std's `write!`
-    // promises its text only where it succeeds, and does not promise that.
-    #[tactic(auto, using(crate::proofs::Decimal::more_long))]
-    fn decimal(&mut self, n: u64)
-        requires { length self.old + length (decimal n) ≤ 64 }
-        ensures { self.new ≡ self.old ++ decimal n }
-    {
-        if 10 <= n {
-            self.decimal(n / 10);
-        }
-        self.byte(b'0' + (n % 10) as u8);
-    }
-
-    // Writes a number and a byte after it.
-    #[tactic(auto, using(crate::proofs::Decimal::number_long), unfolding(crate::specs::Listing::field))]
-    fn field(&mut self, n: u64, after: u8)
-        requires { length self.old + 21 ≤ 64 }
-        ensures written { self.new ≡ self.old ++ field n after }
-        ensures short { length self.new ≤ length self.old + 21 }
-    {
-        self.decimal(n);
-        self.byte(after);
-    }
-
-    // Copies the line into a lent buffer, and says how long it is; what is past it stays.
-    #[tactic(auto, using(crate::proofs::Decimal::put_copies))]
-    fn copy_to(&self, out: &mut [u8; 64]) -> usize
-        ensures { (result ≡ length self.now) × (out.new ≡ put 0 self.now out.old) × (result ≤ 64) }
-    {
-        out[..self.len].copy_from_slice(&self.bytes[..self.len]);
-        self.len
-    }
+// Writes a number in decimal and a byte after it.
+#[tactic(auto, using(crate::proofs::Decimal::decimal_is, std::proofs::Common::append_assoc), unfolding(crate::specs::Listing::field))]
+fn field(text: &mut ArrayVec<u8, 64>, n: u64, after: u8)
+    requires { array_vec_len text.old + 21 ≤ 64 }
+    ensures written { text.new.items ≡ text.old.items ++ field n after }
+    ensures short { array_vec_len text.new ≤ array_vec_len text.old + 21 }
+{
+    let mut buffer = Buffer::new();
+    let digits = buffer.format(n).as_bytes();
+    text.try_extend_from_slice(digits).unwrap();
+    text.push(after);
 }
 
 // The output line of an answer.
 #[tactic(auto, unfolding(crate::specs::Listing::shown))]
-fn show(number: u64, answer: Result<Rating, Refusal>) -> Text
-    ensures { result ≡ shown number answer }
+fn show(number: u64, answer: Result<Rating, Refusal>) -> ArrayVec<u8, 64>
+    ensures { result.items ≡ shown number answer }
 {
-    let mut text = Text::new();
-    text.field(number, b' ');
+    let mut text = ArrayVec::new();
+    field(&mut text, number, b' ');
     match answer {
         Ok(rating) => {
-            text.field(u64::from(rating.verdict.number()), b' ');
-            text.field(u64::from(rating.trials), b'\n');
+            field(&mut text, u64::from(rating.verdict.number()), b' ');
+            field(&mut text, u64::from(rating.trials), b'\n');
         }
         Err(refusal) => {
-            text.byte(b'R');
-            text.byte(b' ');
-            text.field(u64::from(refusal.number()), b'\n');
+            text.push(b'R');
+            text.push(b' ');
+            field(&mut text, u64::from(refusal.number()), b'\n');
         }
     }
     text
@@ -113,7 +60,7 @@ fn show(number: u64, answer: Result<Rating, Refusal>) -> Text
 
 // Grades a line of input under the default order and ceiling, writes its output line into a lent buffer, in which any line has room, and says
 // how long it is; what is past it stays.
-#[tactic(auto, unfolding(crate::specs::Listing::listed))]
+#[tactic(auto, using(crate::proofs::Decimal::put_copies), unfolding(crate::specs::Listing::listed))]
 pub fn list_line(number: u64, line: &[u8], out: &mut [u8; 64]) -> usize
     ensures { (result ≡ length (listed number line.now)) × (out.new ≡ put 0 (listed number line.now) out.old)
         × (result ≤ 64) }
@@ -121,5 +68,7 @@ pub fn list_line(number: u64, line: &[u8], out: &mut [u8; 64]) -> usize
     let order = default_order();
     let mut completion = [0; 81];
     let answer = grade(line, &order, DEFAULT_CEILING, &mut completion);
-    show(number, answer).copy_to(out)
+    let text = show(number, answer);
+    out[..text.len()].copy_from_slice(&text);
+    text.len()
 }

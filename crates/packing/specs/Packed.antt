@@ -4,6 +4,7 @@ use Rattle.std.specs.Prelude.{List, ℕ, ◌+◌, ◌*◌, ◌%◌, ◌^◌, ℤ
 use Rattle.grid.specs.Refusals as refusal
 use Rattle.grid.specs.declared.Refusal.{Refusal}
 use Rattle.clauses.specs.Call as clause
+use Rattle.orders.specs.Technique as technique
 use Rattle.trials.specs.Steps.{outcome_number}
 use Rattle.trials.specs.declared.trial.End.{End}
 use Rattle.inference.specs.Call as job
@@ -45,7 +46,7 @@ packed_rating r = packed_counted (grade.number_of r.verdict) r.trials
 
 -- what a job file sets: the technique's number and the ceiling
 abbrev pub packed_settings : Settings → ℕ
-packed_settings s = packed_counted s.technique s.ceiling
+packed_settings s = packed_counted (technique.number_of s.technique) s.ceiling
 
 -- what a check says: 0 where it accepts
 abbrev pub packed_check : Result (Unit {0}) Refusal → ℕ

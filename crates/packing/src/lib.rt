@@ -76,7 +76,7 @@ impl Packs for Settings {
     ghost bits = { packed_settings };
 
     fn bits(self) -> u64 {
-        counted(self.technique, self.ceiling)
+        counted(self.technique.number(), self.ceiling)
     }
 }
 

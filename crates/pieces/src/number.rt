@@ -1,6 +1,6 @@
-// Little-endian numbers of two and four bytes.
+// Little-endian numbers of two bytes.
 ghost use Rattle.std.specs.Prelude.{◌≡◌, ◌+◌, ◌≤◌, length};
-ghost use Rattle.pieces.specs.Number.{word_at, double_at, signed_of};
+ghost use Rattle.pieces.specs.Number.{word_at, signed_of};
 
 // The number of the two bytes at a place.
 pub fn word_at(file: &[u8], at: usize) -> u16
@@ -8,14 +8,6 @@ pub fn word_at(file: &[u8], at: usize) -> u16
     ensures { result ≡ word_at file.now at }
 {
     u16::from_le_bytes([file[at], file[at + 1]])
-}
-
-// The number of the four bytes at a place.
-pub fn double_at(file: &[u8], at: usize) -> u32
-    requires { at + 4 ≤ length file.now }
-    ensures { result ≡ double_at file.now at }
-{
-    u32::from_le_bytes([file[at], file[at + 1], file[at + 2], file[at + 3]])
 }
 
 // The two's complement number of the two bytes at a place.

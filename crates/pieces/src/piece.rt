@@ -2,7 +2,7 @@
 ghost use Rattle.std.specs.Prelude.{◌≡◌, ◌+◌, ◌<◌, ◌≤◌, length, IfOk};
 ghost use Rattle.pieces.specs.Pieces.{kind_of, body_length, rises, piece_at, with_body, walked, complete, pieces_of};
 
-use crate::number::{double_at, word_at};
+use crate::number::word_at;
 use grid::Refusal;
 
 // The kinds of pieces, in the order in which they stand in a file.
@@ -111,7 +111,7 @@ impl Found {
         match kind {
             Kind::Grid => self.grid = left.first_chunk().copied(),
             Kind::Technique => self.technique = left.first().copied(),
-            Kind::Ceiling => self.ceiling = Some(double_at(left, 0)),
+            Kind::Ceiling => self.ceiling = left.first_chunk().copied().map(u32::from_le_bytes),
             Kind::Order => self.order = left.first_chunk().copied(),
         }
     }

@@ -1,5 +1,5 @@
 -- A state between two closures, and what a closure comes to.
-use Rattle.std.specs.Prelude.{◌≡◌, List, ℕ, ℤ, Result, Ok, Err, IfOk}
+use Rattle.std.specs.Prelude.{List, ℕ, ℤ, Result, Ok, Err, IfOk}
 use Rattle.clauses.specs.Clauses.{clauses_of}
 use Rattle.clauses.specs.declared.ClauseSet.{ClauseSet}
 use Rattle.closure.specs.Closure.{UnitClosed}

@@ -62,7 +62,7 @@ pub fn close_with(
     list.clear();
     let p = literal::mark_index(literal);
     if literal < 0 {
-        state.assign(list, set, p, 2);
+        state.deny(list, set, p);
     } else {
         state.affirm(list, set, p);
     }
@@ -109,8 +109,7 @@ pub fn close_givens(set: ClauseSet, grid: &[u8; 81], list: &mut Worklist) -> Res
         sums: blank_sums(),
         decided: 0,
     };
-    for i in 0..81 {
-        let byte = grid[i];
+    for (i, &byte) in grid.iter().enumerate() {
         if is_digit(byte) {
             close_true(&mut state, list, set, 9 * i + usize::from(byte - 49))?;
         }

@@ -16,7 +16,8 @@ use clauses::decode::place;
 use propagation::close::{Clash, close_true};
 use worklist::acting::State;
 
-// Why an attempt does not refute a state: it has become that of a full grid, or the nodes allowed are spent.
+// Why an attempt does not refute a state: it has become that of a full grid; or the attempt is given up, as the nodes allowed are spent or a place to
+// try is already true.
 #[derive(Clone, Copy, PartialEq, Eq)]
 enum Unrefuted {
     Full,
@@ -106,7 +107,7 @@ fn refute_copy(
 }
 
 // Whether the state is refuted by attempts that survey, each with twice the nodes of the one before and going by where that one failed, until
-// one is not spent. The state then becomes that of a full grid, where it is not refuted.
+// one is not spent. Where that one does not refute it, the state becomes that of a full grid.
 fn refuted_by_surveys(test: &mut Test, state: &mut State) -> bool
     requires { Closed Extended state.old }
     ensures { result ≡ true → left state.old.marks ≡ List.[] }

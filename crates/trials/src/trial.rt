@@ -27,7 +27,7 @@ fn is_named(byte: u8, literal: i16) -> bool
     }
 }
 
-// What is marked is named too.
+// What is marked is named too. Both are read by index: of the items that iter_mut lends, an adapter tells nothing.
 fn note(known: &mut [u8; 729], marks: &[u8; 729])
     ensures { (p : ℕ) → p < 729 → get_or known.new p 0 ≡ bit_or (get_or known.old p 0) (get_or marks.now p 0) }
 {

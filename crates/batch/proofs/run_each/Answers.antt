@@ -1,7 +1,9 @@
 -- The parts before the i-th are filled; the i-th job fills its own.
-use Prim.Native.Nat.{◌+◌, ◌≤◌}
+use mathlib.Core.Path.{ap, ◌∙◌}
+use Prim.Native.Nat.{◌+◌, ◌*◌, ◌≤◌}
 use native.Mathlib.Omega.{arith}
-use lib.ListN.{length, length-take, length-drop}
+use lib.ListN.{length, take, drop, length-take, length-drop}
+use lib.Seq.{take_all}
 use Rattle.batch.specs.Call.{grids_in}
 use Rattle.batch.proofs.Jobs.{sum_is}
 use Rattle.batch.proofs.Rows.{none_done, marks_length, numbers_length, one_more, all_done}
@@ -23,9 +25,12 @@ run_one-made-requires c =
 
 pub loop-i-preserved : goal.loop-i-preserved
 loop-i-preserved c =
+    let i = c.loop-i.i in
     let n = grids_in (length c.args.grids.now) in
-    let few : c.loop-i.i + 1 ≤ n = omega (arith, c.loop-i-test.true) in
-    let u = one_more c.loop-i.invariant.2 c.run_one-made.new.marks c.run_one-made.new.numbers c.run_one-made.result (rw c.grid_at.ensures at c.run_one-made.ensures) in (
+    let few : i + 1 ≤ n = omega (arith, c.loop-i-test.true) in
+    let after = take_all _ (drop (81 * i) c.args.grids.now) (omega (arith, length-drop (81 * i) c.args.grids.now)) in
+    let grid = (rw c.unwrap.ensures at c.first_chunk.ensures.cases).same ∙ ap (take 81) after in
+    let u = one_more c.loop-i.invariant.2 c.run_one-made.new.marks c.run_one-made.new.numbers c.run_one-made.result (rw grid at c.run_one-made.ensures) in (
       marks_length u n few c.requires.marks_long,
       numbers_length u n few c.requires.numbers_long,
       u,

@@ -1,6 +1,4 @@
 -- By what the search has found.
-use mathlib.Core.Path.{◌≡◌}
-use Rattle.exploration.specs.Search.{zeros}
 use Rattle.grading.proofs.Grading.{marks_complete, only_legal, graded_one, graded_none, graded_several}
 use Rattle.grading.proofs.rate.Goals as goal
 use Rattle.grading.proofs.rate.Goals.{in-Nothing, in-Several}
@@ -14,13 +12,12 @@ climb-requires c =
 pub returns-in-One : goal.returns-in-One
 returns-in-One c =
     let a = c.args in
-    graded_one a.grid.now a.order.now.entries.now a.ceiling c.in-One.only c.copy_from_slice.new.self c.climb.result c.in-One.ensures c.copy_from_slice.ensures.after c.climb.ensures
+    graded_one a.grid.now a.order.now.entries.now a.ceiling c.in-One.only c.climb.result c.in-One.ensures c.climb.ensures
 
 pub returns : goal.returns
 returns c =
     let a = c.args in
-    let cleared : c.fill.new.self ≡ zeros = rw c.requires at (c.fill.ensures.after (λ y e. e)) in
     elim c.match-find.branch [
-      | in-Nothing w ↦ graded_none a.grid.now a.order.now.entries.now a.ceiling c.fill.new.self c.match-find.verdict w.in-Nothing.ensures cleared w.verdict-is
-      | in-Several w ↦ graded_several a.grid.now a.order.now.entries.now a.ceiling w.in-Several.field-0 w.in-Several.field-1 c.fill.new.self c.match-find.verdict w.in-Several.ensures cleared w.verdict-is
+      | in-Nothing w ↦ graded_none a.grid.now a.order.now.entries.now a.ceiling c.match-find.verdict w.in-Nothing.ensures w.verdict-is
+      | in-Several w ↦ graded_several a.grid.now a.order.now.entries.now a.ceiling w.in-Several.field-0 w.in-Several.field-1 c.match-find.verdict w.in-Several.ensures w.verdict-is
     ]
