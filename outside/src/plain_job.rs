@@ -1,9 +1,9 @@
 //! The job call by the steps of the proved one, in plain Rust: the bench times the proved call
 //! beside it. A place is a variable less 1. Each nine-literal clause has a sum of what its places
-//! weigh, so that a look at the sum tells whether it may act, and on which place. Clauses of which one
-//! place comes to be left are listed by their numbers, so each once, and looked at one by one; a place
-//! that becomes true lists the two-literal clauses that it is in, and these act before the next look.
-//! Trials that are known to succeed are only counted.
+//! weigh, so that a look at the sum tells whether it may act, and on which place. Clauses that may
+//! act are listed by their numbers and looked at one by one; a place that becomes true lists the
+//! two-literal clauses that it is in, and these act before the next look. Trials that are known to
+//! succeed are only counted.
 
 use crate::grid::{self, VARIABLES};
 use crate::refusal::{demand, demand_none, Refusal};
@@ -16,8 +16,8 @@ const OPEN: u16 = 1_024;
 /// nine-literal clause of the extended set; the minimal set has those of the cells.
 const GROUPS: usize = 324;
 
-/// Each nine-literal clause is listed once at most; one more is written and not counted.
-const ROOM: usize = GROUPS + 1;
+/// Each place that is decided lists four clauses at most.
+const ROOM: usize = 4 * VARIABLES;
 
 /// The marks, the sums of the nine-literal clauses, and how many places are decided.
 #[derive(Clone, Copy)]
@@ -166,18 +166,18 @@ impl<const EXTENDED: bool> Closing<EXTENDED> {
     }
 
     /// An undecided place gets a mark, and weighs so much more. The clause of each of its groups is
-    /// written to the list, and stays there if one place comes to be left: that needs no branch.
+    /// written to the list, and stays there if it may act: that needs no branch.
     #[inline(always)]
     fn assign(&mut self, state: &mut State, p: usize, mark: u8, more: u16) {
         let nines = if EXTENDED { 4 } else { 1 };
         for (kind, &group) in groups(p as u16)[..nines].iter().enumerate() {
             let clause = if kind == 0 { group } else { group + ABOVE };
-            // SAFETY: a group is below 324, and each of the 324 clauses is listed once at most.
+            // SAFETY: a group is below 324, and each of the 729 places lists four clauses at most.
             unsafe {
                 let sum = state.sums.get_unchecked_mut(usize::from(group));
                 *sum = sum.wrapping_add(more);
                 *self.list.get_unchecked_mut(self.listed) = clause;
-                self.listed += usize::from((OPEN..2 * OPEN).contains(sum));
+                self.listed += usize::from(*sum < 2 * OPEN);
             }
         }
         state.marks[p] = mark;

@@ -59,7 +59,7 @@ fn run_one(
     made + end.count
 }
 
-// The jobs of a batch that is not refused.
+// The jobs of a batch that is not refused. They are counted, as each receives its parts of what is lent as ranges.
 fn run_each(
     technique: Technique,
     grids: &[u8],

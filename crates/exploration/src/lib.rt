@@ -62,7 +62,8 @@ fn first_open(marks: &[u8; 729]) -> Option<usize>
     (0..81).find(|cell| is_open(marks, *cell))
 }
 
-// The digit byte that is marked in a cell, `1` where none is: it is asked of cells that are not open. Cells are plain numbers, as they are computed.
+// The digit byte that is marked in a cell, `1` where none is: it is asked of cells that are not open. Cells are plain numbers, as they are computed. It is
+// a loop: std has no law of `find` over a reversed range.
 #[tactic(auto, unfolding(clauses::specs::Models::pick, crate::specs::Search::digit_in))]
 fn digit_in(marks: &[u8; 729], cell: usize) -> u8
     requires { cell < 81 }

@@ -62,14 +62,14 @@ closed_quiet s m ok x h b = ⊎_elim
     (λ k. omega (arith, k.3, byte_true m (place_of (group_in x) k.0) (slot_lasts s (has m) ok.closed x h k.0 k.1 k.4)))
     (sum_small m (group_in x) ok.marks b)
 
-pub state_ready : (s : ClauseSet) {st : State} {l : Worklist} {E : ℕ → Type 0} → Closed s st → (l.listed ≡ 0) × (length l.numbers ≡ 361) → Ready s E st l
+pub state_ready : (s : ClauseSet) {st : State} {l : Worklist} {E : ℕ → Type 0} → Closed s st → (l.listed ≡ 0) × (length l.numbers ≡ 2952) → Ready s E st l
 state_ready s {st} ok none =
     record {
       marks = ok.marks.marks;
       sums = ok.sums;
       long = none.1;
+      room = omega (arith, none.0);
       numbers = λ i h. absurd (omega (arith, none.0));
-      once = λ i j h k. absurd (omega (arith, none.0, k));
       acting = λ x h b. absurd (closed_quiet s st.marks ok.marks x h (let e = ok.sums.sums x h in omega (arith, e, b)));
     }
 

@@ -64,11 +64,11 @@ taken s {st} {l} {l'} {c} r p =
         marks = r.marks;
         sums = r.sums;
         long = ap length p.1 ∙ r.long;
-        numbers = λ i h. let v = r.numbers i (omega (arith, p.0)) in (v.0, v.1, v.2, same i ∙ v.3);
-        once = λ i j h k e. r.once i j h (omega (arith, p.0, k)) (sym (same i) ∙ e ∙ same j);
+        room = omega (arith, p.0, r.room);
+        numbers = λ i h. let v = r.numbers i (omega (arith, p.0)) in (v.0, v.1, same i ∙ v.2);
         acting = λ x h b. ⊎_elim absurd (still x) (r.acting x h b);
       },
-      (n.0, n.1, p.2 ∙ n.3),
+      (n.0, n.1, p.2 ∙ n.2),
     )
   where
     same : (i : ℕ) → get_or l'.numbers i 0 ≡ get_or l.numbers i 0
@@ -95,8 +95,8 @@ module _ (s : ClauseSet) (st : State) (l : Worklist) (c : ℕ) (r : Ready s (Off
         marks = r.marks;
         sums = r.sums;
         long = r.long;
+        room = r.room;
         numbers = r.numbers;
-        once = r.once;
         acting = λ x h b. ⊎_elim (λ y. still x h b y) inr (r.acting x h b);
       }
     where

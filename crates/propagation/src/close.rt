@@ -62,7 +62,7 @@ pub fn close_with(
     list.clear();
     let p = literal::mark_index(literal);
     if literal < 0 {
-        state.deny(list, set, p);
+        state.assign(list, set, p, 2);
     } else {
         state.affirm(list, set, p);
     }

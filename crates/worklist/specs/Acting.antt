@@ -38,27 +38,15 @@ Undecided m p = (p < 729) × (get_or m p 0 ≡ 0)
 abbrev pub IsSign : ℕ → Type 0
 IsSign b = (1 ≤ b) × (b ≤ 2)
 
--- the slots that may be off the list while place p gets mark b: those that have it, where it becomes true
-abbrev pub Due : ℕ → ℕ → ℕ → Type 0
-Due p b x = At p x × (b ≡ 1)
-
--- all places of a group but the k-th are false
-abbrev pub AllBut : List ℕ → Group → ℕ → Type 0
-AllBut m g k = (j : ℕ) → j < 9 → (j ≡ k → ⊥) → False m (place_of g j)
-
--- at most one place of a slot's group is left that is not false
-abbrev pub OneLeft : List ℕ → ℕ → Type 0
-OneLeft m x = (k : ℕ) × AllBut m (group_in x) k
-
--- A state with its sums, and a list of clause numbers. From its front on the list has nine-literal clauses of which at most one place is left, each
--- once, so that 324 is room for all: every one whose sum is below 2,048, which may still add a literal or is a contradiction, but for the slots E; and
--- of the others those of which the place that was left has become true since they were listed. Behind them come the pairs.
+-- A state with its sums and its count, and a list of clause numbers. From its front on the list has every nine-literal clause whose sum is below
+-- 2,048, those that may still add a literal or are a contradiction, but for the slots E. A place lists at most the four clauses that it is in, when
+-- it is decided, so that 2,916 is room for all; behind them come the pairs.
 pub record Ready (s : ClauseSet) (E : ℕ → Type 0) (st : State) (l : Worklist) : Type 0 where
   pub marks : IsMarks st.marks
   pub sums : SumsOk s st.marks st.sums
-  pub long : length l.numbers ≡ 361
-  pub numbers : (i : ℕ) → i < l.listed → (x : ℕ) × InSlots s x × OneLeft st.marks x × (get_or l.numbers i 0 ≡ clause_in x)
-  pub once : (i j : ℕ) → i < j → j < l.listed → get_or l.numbers i 0 ≡ get_or l.numbers j 0 → ⊥
+  pub long : length l.numbers ≡ 2952
+  pub room : l.listed ≤ 4 * st.decided
+  pub numbers : (i : ℕ) → i < l.listed → (x : ℕ) × InSlots s x × (get_or l.numbers i 0 ≡ clause_in x)
   pub acting : (x : ℕ) → InSlots s x → get_or st.sums x 0 < 2048 → E x ⊎ Listed l.numbers l.listed (clause_in x)
 
 -- the clause that was listed last is taken off, if one was listed
@@ -74,14 +62,14 @@ Within a i p q = (j : ℕ) × (a ≤ j) × (j < i) × (k : ℕ) × (k < 9) × (q
 abbrev pub Adds : ClauseSet → List ℕ → ℕ → ℕ → Type 0
 Adds s m c q = (p : ℕ) × True m p × Undecided m q × Pair s c p q
 
--- number c stands among the n pairs of the list, which begin at 325, with place q beside it
+-- number c stands among the n pairs of the list, which begin at 2,916, with place q beside it
 abbrev pub Beside : List ℕ → List ℕ → ℕ → ℕ → ℕ → Type 0
-Beside ls o n c q = (i : ℕ) × (i < n) × (get_or ls (325 + i) 0 ≡ c) × (get_or o i 0 ≡ q)
+Beside ls o n c q = (i : ℕ) × (i < n) × (get_or ls (2916 + i) 0 ≡ c) × (get_or o i 0 ≡ q)
 
 -- The pairs of the list, each with the place that it would strike beside it: exactly the two-literal clauses that may still add a literal.
 pub record PairsReady (s : ClauseSet) (m ls : List ℕ) (t : Targets) : Type 0 where
   pub few : t.count ≤ 36
-  pub sound : (i : ℕ) → i < t.count → Adds s m (get_or ls (325 + i) 0) (get_or t.places i 0)
+  pub sound : (i : ℕ) → i < t.count → Adds s m (get_or ls (2916 + i) 0) (get_or t.places i 0)
   pub complete : (c q : ℕ) → Adds s m c q → Beside ls t.places t.count c q
 
 -- place q is one of those that the pairs would strike
@@ -91,12 +79,12 @@ Struckable t q = Listed t.places t.count q
 -- the nine-literal clauses of the list are left as they are
 pub record Front (ls ls' : List ℕ) : Type 0 where
   pub long : length ls' ≡ length ls
-  pub same : (i : ℕ) → i < 325 → get_or ls' i 0 ≡ get_or ls i 0
+  pub same : (i : ℕ) → i < 2916 → get_or ls' i 0 ≡ get_or ls i 0
 
 -- Of the pairs D, each a place and a number, those whose place is undecided are listed, and nothing else.
 pub record Opened (m : List ℕ) (D : ℕ → ℕ → Type 0) (ls o : List ℕ) (n : ℕ) : Type 0 where
   pub long : length o ≡ 36
-  pub sound : (i : ℕ) → i < n → D (get_or o i 0) (get_or ls (325 + i) 0) × (get_or m (get_or o i 0) 0 ≡ 0)
+  pub sound : (i : ℕ) → i < n → D (get_or o i 0) (get_or ls (2916 + i) 0) × (get_or m (get_or o i 0) 0 ≡ 0)
   pub complete : (q c : ℕ) → D q c → get_or m q 0 ≡ 0 → Beside ls o n c q
 
 -- the pairs of p with the first places of its group of the j-th kind
@@ -133,6 +121,10 @@ pub record Strikes (s : ClauseSet) (O : ℕ → Type 0) (m : List ℕ) (st : Sta
 -- every true place has struck the others of its groups: no two-literal clause may still add a literal
 abbrev pub Struck : ClauseSet → List ℕ → Type 0
 Struck s m = (p : ℕ) → p < 729 → True m p → (q : ℕ) → Within (first_pair s) 4 p q → (q ≡ p → ⊥) → False m q
+
+-- all places of a group but the k-th are false
+abbrev pub AllBut : List ℕ → Group → ℕ → Type 0
+AllBut m g k = (j : ℕ) → j < 9 → (j ≡ k → ⊥) → False m (place_of g j)
 
 -- what steps from m may add: literals of the unit closure of m
 abbrev pub Follows : ClauseSet → List ℕ → List ℕ → Type 0

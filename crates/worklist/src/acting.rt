@@ -1,7 +1,6 @@
-// Marks with a sum for each nine-literal clause, and a list of the clauses that may act: nine-literal clauses from its front, and from 325 on
+// Marks with a sum for each nine-literal clause, and a list of the clauses that may act: nine-literal clauses from its front, and from 2,916 on
 // two-literal ones, pairs, with the place that each would strike beside it. A place that is decided changes the sums of the clauses that it is
-// in, and those of which one place comes to be left are listed, so each once. A place that becomes true lists its pairs, and these act at once, so
-// that between two steps none is left.
+// in, and those that come to act are listed. A place that becomes true lists its pairs, and these act at once, so that between two steps none is left.
 ghost use Rattle.std.specs.Prelude.{◌≡◌, ℕ, ◌+◌, ◌*◌, ◌≤◌, ◌<◌, length, set as update};
 ghost use Rattle.closure.specs.Marks.{decided as decisions};
 ghost use Rattle.groups.specs.Groups.{number_of, first_pair, IsRun};
@@ -14,9 +13,9 @@ use groups::{Kind, nine_kinds, pair_table};
 // nothing to them. Its memory is fixed, since the library has no heap.
 #[derive(Drop)]
 pub struct Worklist {
-    numbers: [u16; 361],
+    numbers: [u16; 2952],
     listed: usize,
-    ghost fits: { listed ≤ 324 },
+    ghost fits: { listed ≤ 2952 },
 }
 
 impl Worklist {
@@ -27,14 +26,14 @@ impl Worklist {
         ensures { result.listed ≡ 0 }
     {
         Worklist {
-            numbers: [0; 361],
+            numbers: [0; 2952],
             listed: 0,
         }
     }
 
     // Takes everything off the list.
     pub fn clear(&mut self)
-        ensures { (self.new.listed ≡ 0) × (length self.new.numbers ≡ 361) }
+        ensures { (self.new.listed ≡ 0) × (length self.new.numbers ≡ 2952) }
     {
         self.listed = 0;
     }
@@ -68,7 +67,7 @@ impl Targets {
     #[tactic(auto, using(groups::proofs::Pairs::row_most, groups::proofs::Pairs::number_small, groups::proofs::Slots::place_small))]
     fn list_run(
         &mut self,
-        numbers: &mut [u16; 361],
+        numbers: &mut [u16; 2952],
         marks: &[u8; 729],
         kind: Kind,
         p: usize,
@@ -86,7 +85,7 @@ impl Targets {
         for k in from..to {
             let q = line.place(k);
             let number = first + usize::from(table[row + k]);
-            numbers[325 + n] = number as u16;
+            numbers[2916 + n] = number as u16;
             self.places[n] = q as u16;
             // It is counted only where it may act, with no branch.
             n = if marks[q] == 0 { n + 1 } else { n };
@@ -95,7 +94,7 @@ impl Targets {
     }
 
     // All pairs of p that may act, where none is listed yet.
-    fn list_pairs(&mut self, numbers: &mut [u16; 361], marks: &[u8; 729], set: ClauseSet, p: usize)
+    fn list_pairs(&mut self, numbers: &mut [u16; 2952], marks: &[u8; 729], set: ClauseSet, p: usize)
         requires { (self.old.count ≡ 0) × (p < 729) }
         ensures { ListedTo marks.now (first_pair set) 3 p 9 numbers.old numbers.new self.new }
     {
@@ -136,14 +135,13 @@ pub struct State {
 }
 
 impl State {
-    ghost use Rattle.worklist.specs.Acting.{Ready, At, Due, Struck, Undecided, IsSign, PairsReady, True, Struckable, Strikes, Stepped};
+    ghost use Rattle.worklist.specs.Acting.{Ready, At, Struck, Undecided, IsSign, PairsReady, True, Struckable, Strikes, Stepped};
 
-    // An undecided place gets a mark. Each clause that it is in is written to the list, and stays where one place of
-    // it comes to be left.
+    // An undecided place gets a mark. Each clause that it is in is written to the list, and stays where it may act.
     #[tactic(auto, using(groups::proofs::Slots::slot_below))]
     #[inline]
-    fn assign(&mut self, list: &mut Worklist, set: ClauseSet, p: usize, mark: u8)
-        requires { Ready set (Due p mark) self.old list.old × Undecided self.old.marks p × IsSign mark }
+    pub fn assign(&mut self, list: &mut Worklist, set: ClauseSet, p: usize, mark: u8)
+        requires { Ready set (At p) self.old list.old × Undecided self.old.marks p × IsSign mark }
         ensures { (self.new.marks ≡ update self.old.marks p mark) × (self.new.decided ≡ self.old.decided + 1)
             × Ready set (λ x. ⊥) self.new list.new }
     {
@@ -153,21 +151,12 @@ impl State {
             let sum = usize::from(self.sums[slot]) + weight(mark, p) - (1024 + p);
             self.sums[slot] = sum as u16;
             list.numbers[n] = kind.clause_at(p);
-            // It is counted only where one place comes to be left, with no branch.
-            n = if 1024 <= sum && sum < 2048 { n + 1 } else { n };
+            // It is counted only where it may act, with no branch.
+            n = if sum < 2048 { n + 1 } else { n };
         }
         list.listed = n;
         self.marks[p] = mark;
         self.decided += 1;
-    }
-
-    // An undecided place becomes false.
-    pub fn deny(&mut self, list: &mut Worklist, set: ClauseSet, p: usize)
-        requires { Ready set (λ x. ⊥) self.old list.old × Undecided self.old.marks p }
-        ensures { (self.new.marks ≡ update self.old.marks p 2) × (self.new.decided ≡ self.old.decided + 1)
-            × Ready set (λ x. ⊥) self.new list.new }
-    {
-        self.assign(list, set, p, 2);
     }
 
     // A place becomes false, if it is not.
@@ -176,7 +165,7 @@ impl State {
         ensures { Strikes set (λ x. x ≡ q) self.old.marks self.new list.new }
     {
         if self.marks[q] == 0 {
-            self.deny(list, set, q);
+            self.assign(list, set, q, 2);
         }
     }
 

@@ -57,12 +57,12 @@ module _ (s : ClauseSet) (st : State) (l : ℤ) (ok : Closed s st) (lit : Litera
     begun_true : byte_of l ≡ 1 → Stepped s (set st.marks p 1) st' l' → Stepped s marked st' l'
     begun_true b v = subst (λ y. Stepped s y st' l') (ap (λ p. set st.marks p 1) is_place ∙ ap (set st.marks (place_at l)) (sym b)) v
 
-pub deny-requires : goal.deny-requires
-deny-requires c =
+pub assign-requires : goal.assign-requires
+assign-requires c =
     let a = c.args in
     let r = c.requires in
     let p = place_read c.mark_index-p.ensures (read a.literal c.ranges.literal) r.1 in
-    (state_ready a.set r.0 c.clear.ensures, undecided a.set a.state.now a.literal r.0 r.1 r.2 _ p)
+    (state_ready a.set r.0 c.clear.ensures, undecided a.set a.state.now a.literal r.0 r.1 r.2 _ p, (omega arith, omega arith))
 
 pub affirm-requires : goal.affirm-requires
 affirm-requires c =
@@ -84,7 +84,7 @@ begun c =
       | then-literal-lt0 w ↦
           rw (w.state-is, w.list-is)
           (begun_false a.set a.state.now a.literal r.0 r.1 r.2 _ p
-          (below_byte a.literal (test_of (λ z. lt_z z (pos 0)) true a.literal c.ranges.literal w.if-literal-lt0.true)) w.deny.ensures.0 w.deny.ensures.2)
+          (below_byte a.literal (test_of (λ z. lt_z z (pos 0)) true a.literal c.ranges.literal w.if-literal-lt0.true)) w.assign.ensures.0 w.assign.ensures.2)
       | else-literal-lt0 w ↦
           rw (w.state-is, w.list-is)
           (begun_true a.set a.state.now a.literal r.0 r.1 r.2 _ p

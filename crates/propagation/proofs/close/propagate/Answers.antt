@@ -15,7 +15,7 @@ loop-clause-smaller c =
     let v = c.in_ok-look.ensures in
     let r = v.0.ready in
     let p = c.in-Some.ensures in
-    ⊎_elim (λ h. omega (arith, h, c.look.new.list.fits, c.look.new.state.counted, decided_bounded c.look.new.state.marks)) (λ h. omega (arith, h.0, h.1, p.0)) v.1
+    ⊎_elim (λ h. omega (arith, h, r.room, c.look.new.state.counted, decided_bounded c.look.new.state.marks)) (λ h. omega (arith, h.0, h.1, p.0)) v.1
 
 pub loop-clause-preserved : goal.loop-clause-preserved
 loop-clause-preserved c = stepped_more c.args.set c.loop-clause.invariant c.in_ok-look.ensures.0

@@ -7,4 +7,4 @@ abbrev pub invariant-loop-clause : goal.invariant-loop-clause
 invariant-loop-clause l = Stepped l.set l.fn.state.marks l.state l.list
 
 abbrev pub decreases-loop-clause : goal.decreases-loop-clause
-decreases-loop-clause l = (729 - l.state.decided) * 325 + l.list.listed
+decreases-loop-clause l = (729 - l.state.decided) * 2917 + l.list.listed

@@ -1,7 +1,7 @@
 -- The sums follow kind by kind.
 use mathlib.Core.Path.{◌≡◌, refl, ap, sym, subst, ◌∙◌}
-use mathlib.Core.Logic.{◌⊎◌, inl, inr}
-use Prim.Native.Nat.{◌+◌, ◌-◌}
+use mathlib.Core.Logic.{◌⊎◌, inl, inr, ⊎_elim}
+use Prim.Native.Nat.{◌+◌, ◌-◌, ◌≤◌, ◌<◌}
 use native.Mathlib.Omega.{arith}
 use lib.ListN.{length, get_or, set}
 use Rattle.closure.specs.Marks.{decided}
@@ -10,9 +10,9 @@ use Rattle.groups.specs.Groups.{kind_at, clause_in, slot_at}
 use Rattle.groups.specs.declared.Kind.TheVariants.{Cell}
 use Rattle.groups.proofs.Slots.{nines_below, nines_long, nine_at}
 use Rattle.worklist.proofs.Sums.{weight_most}
-use Rattle.worklist.proofs.Assigning.{Weighing, sum_after, Leaves, counted_set, weighing_few, least, most, weighing_next, weighing_none, weighing_all}
+use Rattle.worklist.proofs.Assigning.{Weighing, sum_after, room_left, counted_set, least, most, weighing_next, weighing_none, weighing_all}
 use Rattle.worklist.proofs.acting.State.assign.Goals as goal
-use Rattle.worklist.proofs.acting.State.assign.Goals.{then-sum-ge1024+then-sum-lt2048, else-sum-ge1024, else-sum-ge1024-via-then-sum-ge1024+else-sum-lt2048, else-sum-ge1024-via-else-sum-ge1024}
+use Rattle.worklist.proofs.acting.State.assign.Goals.{then-sum-lt2048, else-sum-lt2048}
 
 pub loop-kind-init : goal.loop-kind-init
 loop-kind-init c =
@@ -22,9 +22,9 @@ loop-kind-init c =
     let e = nines_long a.set c.nine_kinds-kind-items.ensures in
     record {
       kinds = omega (arith, e, nines_below a.set);
-      room = a.list.now.fits;
+      room = room_left a.set a.p a.mark a.self.now a.list.now r.0 r.1 r.2;
       marks = refl;
-      sums = subst (λ k. Weighing k 0 a.p a.mark m a.self.now.sums a.list.now.numbers a.list.now.listed) (sym e)
+      sums = subst (λ k. Weighing k 0 a.p m (set m a.p a.mark) a.self.now.sums a.list.now.numbers a.list.now.listed) (sym e)
           (weighing_none a.set a.p a.mark a.self.now a.list.now r.0 r.1 r.2);
     }
 
@@ -43,24 +43,17 @@ loop-kind-preserved c =
     let is_sum : c.from.result + c.weight.result - (1024 + a.p) ≡ sum_after l.self.sums slot a.p a.mark =
     ap (λ x. x + c.weight.result - (1024 + a.p)) (c.from.ensures ∙ ap (λ x. get_or l.self.sums x 0) is_slot) ∙ ap (λ x. get_or l.self.sums slot 0 + x - (1024 + a.p)) c.weight.ensures in
     let is_clause : c.clause_at.result ≡ clause_in slot = c.clause_at.ensures ∙ ap (λ f. clause_in (slot_at f a.p)) kind in
-    let n = c.if-sum-ge1024.n in
-    let listed : (Leaves (sum_after l.self.sums slot a.p a.mark) × (n ≡ l.n + 1)) ⊎ ((Leaves (sum_after l.self.sums slot a.p a.mark) → ⊥) × (n ≡ l.n)) = elim c.if-sum-ge1024.branch [
-      | then-sum-ge1024+then-sum-lt2048 w ↦ inl ((omega (arith, w.if-sum-ge1024.true, is_sum), omega (arith, w.if-sum-lt2048.true, is_sum)), w.n-is)
-      | else-sum-ge1024 w ↦ inr (
-        (λ h. elim w.else-sum-ge1024.branch [
-          | else-sum-ge1024-via-then-sum-ge1024+else-sum-lt2048 o ↦ omega (arith, o.if-sum-lt2048.false, is_sum, h.1)
-          | else-sum-ge1024-via-else-sum-ge1024 o ↦ omega (arith, o.if-sum-ge1024.false, is_sum, h.0)
-        ]),
-        w.n-is,
-      )
+    let n = c.if-sum-lt2048.n in
+    let listed : ((sum_after l.self.sums slot a.p a.mark < 2048) × (n ≡ l.n + 1)) ⊎ ((2048 ≤ sum_after l.self.sums slot a.p a.mark) × (n ≡ l.n)) = elim c.if-sum-lt2048.branch [
+      | then-sum-lt2048 w ↦ inl (omega (arith, w.if-sum-lt2048.true, is_sum), w.n-is)
+      | else-sum-lt2048 w ↦ inr (omega (arith, w.if-sum-lt2048.false, is_sum), w.n-is)
     ] in
-    let next = weighing_next (length c.nine_kinds-kind-items.result.now) i a.p a.mark m l.self.sums l.list.numbers l.n v.kinds t r.0.marks r.1 r.2 v.sums
-    (record { sums = rw (is_slot, is_sum) refl; list = ap (set l.list.numbers l.n) is_clause; listed = listed }) in
     record {
       kinds = v.kinds;
-      room = weighing_few (length c.nine_kinds-kind-items.result.now) (i + 1) a.p a.mark m _ _ n v.kinds next;
+      room = ⊎_elim (λ k. omega (arith, v.room, k.1)) (λ k. omega (arith, v.room, k.1)) listed;
       marks = v.marks;
-      sums = next;
+      sums = weighing_next (length c.nine_kinds-kind-items.result.now) i a.p a.mark m l.self.sums l.list.numbers l.n v.kinds t r.0.marks r.1 r.2 v.sums
+          (record { sums = rw (is_slot, is_sum) refl; list = ap (set l.list.numbers l.n) is_clause; listed = listed });
     }
 
 pub overflow_sub-sum : goal.overflow_sub-sum
@@ -106,5 +99,5 @@ returns c =
       e,
       omega (arith, l.self.counted, ap decided v.marks, a.self.now.counted),
       weighing_all a.set a.p a.mark a.self.now a.list.now c.requires.0 c.requires.1 c.requires.2 (omega (arith, k, c.loop-kind-test.false)) (omega (arith, k, l.auto.kind-index-end)) e
-          (subst (λ k. Weighing k l.kind-index a.p a.mark m l.self.sums l.list.numbers l.n) k v.sums),
+          (subst (λ k. Weighing k l.kind-index a.p m (set m a.p a.mark) l.self.sums l.list.numbers l.n) k v.sums),
     )
