@@ -140,7 +140,8 @@ impl Test {
             .map(|(_, group)| group)
     }
 
-    // A trial of a place: where it fails, the place becomes false; else its weight is noted.
+    // A trial of a place: where it fails, the place becomes false; else its weight is noted. The weights are one survey's own, so that they stand in no
+    // state and in no test.
     fn weigh_place(
         &mut self,
         state: &mut State,

@@ -28,7 +28,8 @@ fn untried(outcome: Outcome) -> End
     End { outcome, count: 0 }
 }
 
-// A job that is not refused, where the trials of some literals are known to succeed.
+// A job that is not refused, where the trials of some literals are known to succeed. Order and ceiling are two parameters: the order stays, and the
+// ceiling falls from job to job.
 pub fn run_with(
     technique: Technique,
     grid: &[u8; 81],
