@@ -1,9 +1,10 @@
 //! The job call by the steps of the proved one, in plain Rust: the bench times the proved call
 //! beside it. A place is a variable less 1. Each nine-literal clause has a sum of what its places
-//! weigh, so that a look at the sum tells whether it may act, and on which place. Clauses that may
-//! act are listed by their numbers and looked at one by one; a place that becomes true lists the
-//! two-literal clauses that it is in, and these act before the next look. Trials that are known to
-//! succeed are only counted.
+//! weigh, so that a look at the sum tells whether it may act, and on which place. The clauses that may
+//! act are listed by their numbers, each once, and looked at one by one. A place that becomes false
+//! lists those that come to act; one that becomes true takes its own off, and lists the two-literal
+//! clauses that it is in, and these act before the next look. Trials that are known to succeed are
+//! only counted.
 
 use crate::grid::{self, VARIABLES};
 use crate::refusal::{demand, demand_none, Refusal};
@@ -16,8 +17,8 @@ const OPEN: u16 = 1_024;
 /// nine-literal clause of the extended set; the minimal set has those of the cells.
 const GROUPS: usize = 324;
 
-/// Each place that is decided lists four clauses at most.
-const ROOM: usize = 4 * VARIABLES;
+/// Each nine-literal clause is listed once at most, and one more is written behind them.
+const ROOM: usize = GROUPS + 1;
 
 /// The marks, the sums of the nine-literal clauses, and how many places are decided.
 #[derive(Clone, Copy)]
@@ -61,6 +62,12 @@ fn groups(p: u16) -> [u16; 4] {
 
 /// How far the numbers of F7 to F9 are above their groups; F1's are the same.
 const ABOVE: u16 = 11_664;
+
+/// The group of a clause's number.
+#[inline(always)]
+fn group_of(clause: u16) -> usize {
+    usize::from(if clause < ABOVE { clause } else { clause - ABOVE })
+}
 
 /// The index of a pair of nine places among the 36, the lower first.
 const fn pair_index(low: usize, high: usize) -> u16 {
@@ -165,37 +172,67 @@ impl<const EXTENDED: bool> Closing<EXTENDED> {
         }
     }
 
-    /// An undecided place gets a mark, and weighs so much more. The clause of each of its groups is
-    /// written to the list, and stays there if it may act: that needs no branch.
+    /// How many of a place's groups, the first of them, have a clause of the set.
+    const NINES: usize = if EXTENDED { 4 } else { 1 };
+
+    /// An undecided place becomes true: it weighs more.
     #[inline(always)]
-    fn assign(&mut self, state: &mut State, p: usize, mark: u8, more: u16) {
-        let nines = if EXTENDED { 4 } else { 1 };
-        for (kind, &group) in groups(p as u16)[..nines].iter().enumerate() {
-            let clause = if kind == 0 { group } else { group + ABOVE };
-            // SAFETY: a group is below 324, and each of the 729 places lists four clauses at most.
-            unsafe {
-                let sum = state.sums.get_unchecked_mut(usize::from(group));
-                *sum = sum.wrapping_add(more);
-                *self.list.get_unchecked_mut(self.listed) = clause;
-                self.listed += usize::from(*sum < 2 * OPEN);
-            }
+    fn raise(&mut self, state: &mut State, p: usize) {
+        for &group in &groups(p as u16)[..Self::NINES] {
+            // SAFETY: a group is below 324.
+            unsafe { *state.sums.get_unchecked_mut(usize::from(group)) += OPEN };
         }
-        state.marks[p] = mark;
+        state.marks[p] = 1;
         state.decided += 1;
     }
 
-    /// An undecided place becomes false.
+    /// An undecided place becomes false: it weighs nothing. The clause of each of its groups is
+    /// written to the list, and stays there if one place of it comes to be left: that needs no branch.
     #[inline(always)]
-    fn strike(&mut self, state: &mut State, p: usize) {
-        self.assign(state, p, 2, (OPEN + p as u16).wrapping_neg());
+    fn deny(&mut self, state: &mut State, p: usize) {
+        let weight = OPEN + p as u16;
+        for (kind, &group) in groups(p as u16)[..Self::NINES].iter().enumerate() {
+            let clause = if kind == 0 { group } else { group + ABOVE };
+            // SAFETY: a group is below 324, and so many clauses are listed at most.
+            unsafe {
+                let sum = state.sums.get_unchecked_mut(usize::from(group));
+                *sum -= weight;
+                *self.list.get_unchecked_mut(self.listed) = clause;
+                self.listed += usize::from(*sum >= OPEN && *sum < 2 * OPEN);
+            }
+        }
+        state.marks[p] = 2;
+        state.decided += 1;
+    }
+
+    /// Takes the clauses off that have a true place; false where one that stays has no place left.
+    #[inline(always)]
+    fn settle(&mut self, sums: &[u16; GROUPS]) -> bool {
+        let mut listed = 0;
+        let mut clash = false;
+        for i in 0..self.listed {
+            // SAFETY: so many clauses are listed, and their groups are below 324.
+            unsafe {
+                let clause = *self.list.get_unchecked(i);
+                let sum = *sums.get_unchecked(group_of(clause));
+                *self.list.get_unchecked_mut(listed) = clause;
+                listed += usize::from(sum < 2 * OPEN);
+                clash |= sum == 0;
+            }
+        }
+        self.listed = listed;
+        !clash
     }
 
     /// An undecided place becomes true. The clauses of two literals that it is in are written to the
     /// list, each with the other place beside it, and stay there if that is undecided, without a
-    /// branch for each; then they strike.
+    /// branch for each; then they strike. False for a contradiction.
     #[inline(always)]
-    fn affirm(&mut self, state: &mut State, p: usize) {
-        self.assign(state, p, 1, OPEN);
+    fn affirm(&mut self, state: &mut State, p: usize) -> bool {
+        self.raise(state, p);
+        if !self.settle(&state.sums) {
+            return false;
+        }
         let mut beside = [0u16; 36];
         let mut count = 0;
         let first_pairs = if EXTENDED { 0 } else { 1 };
@@ -218,26 +255,20 @@ impl<const EXTENDED: bool> Closing<EXTENDED> {
             unsafe {
                 let q = usize::from(*beside.get_unchecked(count));
                 if *state.marks.get_unchecked(q) == 0 {
-                    self.strike(state, q);
+                    self.deny(state, q);
                 }
             }
         }
+        true
     }
 
-    /// Looks at the nine-literal clauses that are listed; false for a contradiction.
+    /// Looks at the nine-literal clauses that are listed, the last one first; false for a
+    /// contradiction.
     fn propagate(&mut self, state: &mut State) -> bool {
         while self.listed > 0 {
-            self.listed -= 1;
-            let clause = self.list[self.listed];
-            let group = if clause < ABOVE {
-                clause
-            } else {
-                clause - ABOVE
-            };
-            match state.sums[usize::from(group)] {
-                0 => return false,
-                sum if sum < 2 * OPEN => self.affirm(state, usize::from(sum - OPEN)),
-                _ => {}
+            let sum = state.sums[group_of(self.list[self.listed - 1])];
+            if sum == 0 || !self.affirm(state, usize::from(sum - OPEN)) {
+                return false;
             }
         }
         true
@@ -248,12 +279,12 @@ impl<const EXTENDED: bool> Closing<EXTENDED> {
     pub(crate) fn join(&mut self, state: &mut State, literal: i16) -> bool {
         let p = usize::from(literal.unsigned_abs()) - 1;
         self.listed = 0;
-        if literal > 0 {
-            self.affirm(state, p);
+        if literal < 0 {
+            self.deny(state, p);
+            self.propagate(state)
         } else {
-            self.strike(state, p);
+            self.affirm(state, p) && self.propagate(state)
         }
-        self.propagate(state)
     }
 
     /// The unit closure of a grid's givens, or None for a contradiction.

@@ -27,7 +27,7 @@ use Rattle.closure.proofs.Marks.{decided_rises, decided_grows}
 use Rattle.worklist.proofs.Sums.{byte_true, false_byte}
 use Rattle.worklist.specs.declared.acting.State.{State}
 use Rattle.propagation.specs.Steps.{Closed, ComesTo, ClosesTo}
-use Rattle.propagation.specs.declared.close.Clash.{Clash}
+use Rattle.worklist.specs.declared.acting.Clash.{Clash}
 use Rattle.completions.specs.Left.{left}
 use Rattle.completions.proofs.ByteOrder.{in_order_same}
 use Rattle.completions.proofs.Left.{Fits, Of, model, with_fits, clash_fits, closed_fits, left_in_order, unfit_left}

@@ -7,7 +7,7 @@ use Rattle.clauses.specs.declared.ClauseSet.TheVariants.{Extended}
 use Rattle.clauses.specs.declared.Group.{Group}
 use Rattle.worklist.specs.declared.acting.State.{State}
 use Rattle.propagation.specs.Steps.{Closed}
-use Rattle.propagation.specs.declared.close.Clash.{Clash}
+use Rattle.worklist.specs.declared.acting.Clash.{Clash}
 use Rattle.completions.specs.Left.{left}
 
 -- no grid that the marks leave has the place true

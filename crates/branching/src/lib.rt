@@ -12,8 +12,8 @@ ghost use Rattle.branching.specs.Branching.{WeighsTo, LooksTo};
 use clauses::decode::place;
 use clauses::{ClauseSet, Group, literal};
 use crowding::crowded;
-use propagation::close::{Clash, close_true, close_with};
-use worklist::acting::{State, Worklist};
+use propagation::close::{close_true, close_with};
+use worklist::acting::{Clash, State, Worklist};
 
 // How many groups there are: the cells, then each house for each digit. Cells and places are plain numbers, as they are computed.
 const GROUPS: usize = 324;

@@ -5,12 +5,12 @@ use mathlib.Core.Path.{◌≡◌, ap, sym, subst, ◌∙◌}
 use mathlib.Core.Logic.{inl, inr, ⊎_elim, ◌↔◌}
 use mathlib.Core.Bool.{Bool, true, false}
 use mathlib.Core.List.{List, Memᴰ}
-use Prim.Native.Nat.{ℕ, suc, ◌≤◌, ◌<◌}
-use native.Mathlib.Decide.{dec_lt}
+use Prim.Native.Nat.{ℕ, suc, ◌<◌}
+use native.Mathlib.Decide.{ℕ_discrete}
 use native.Mathlib.Omega.{arith}
 use lib.Dec.{T}
 use lib.IntN.{ℤ, pos, negsuc, neg_ℤ}
-use lib.ListN.{length, set}
+use lib.ListN.{length, get_or, set}
 use Rattle.std.specs.Prelude.{Result, Ok, Err, IsErr, IfOk}
 use Rattle.clauses.specs.Clauses.{clauses_of}
 use Rattle.clauses.specs.Literal.{Literal}
@@ -24,22 +24,21 @@ use Rattle.closure.specs.Marks.{has, is_decided, mark, blank, IsMarks}
 use Rattle.closure.specs.Propagation.{Answer, clash, closed, bind, join, unit_closure, Closes}
 use Rattle.closure.proofs.Sets.{least_mono, least_within}
 use Rattle.closure.proofs.Closure.{contradiction_mono}
-use Rattle.closure.proofs.Marks.{has_single, has_mark, is_marks_mark, or_iff}
+use Rattle.closure.proofs.Marks.{has_mark, is_marks_mark, or_iff}
 use Rattle.closure.proofs.ClauseSets.{well_formed}
 use Rattle.closure.proofs.Propagation.{InMarks, unit_closure_ok, unit_closure_marks, closes_same, closes_unique, givens_closed}
 use Rattle.groups.specs.Groups.{group_at, group_in, index_at, kind_at, number_of, slot_at, PairKind}
-use Rattle.worklist.specs.Sums.{InSlots, sum_of}
-use Rattle.worklist.specs.Acting.{True, False, Undecided, Ready, Struck, Stepped}
+use Rattle.worklist.specs.Sums.{InSlots}
+use Rattle.worklist.specs.Acting.{True, False, AllBut, Acts, Undecided, Ready, Struck, Stepped}
 use Rattle.worklist.specs.declared.acting.State.{State}
 use Rattle.worklist.specs.declared.acting.Worklist.{Worklist}
 use Rattle.groups.proofs.Slots.{number_at, at_number, number_below, index_at_lem, place_at_lem, group_same, slot_group, slot_in, place_once}
-use Rattle.worklist.proofs.Sums.{sum_small, sum_large, byte_true}
-use Rattle.worklist.proofs.Rules.{closed_strikes, groups_closed}
+use Rattle.worklist.proofs.Sums.{true_byte, byte_true}
+use Rattle.worklist.proofs.Rules.{closed_strikes, groups_closed, slot_lasts}
 use Rattle.worklist.proofs.Literals.{has_set}
 use Rattle.worklist.proofs.Striking.{signs_differ}
-use Rattle.propagation.specs.Steps.{MarksOk, Closed, answer_of, ComesTo, state_left}
-use Rattle.propagation.specs.declared.close.Clash.{Clash}
-use Rattle.propagation.proofs.Looking.{slot_lasts}
+use Rattle.propagation.specs.Steps.{Closed, answer_of, ComesTo, state_left}
+use Rattle.worklist.specs.declared.acting.Clash.{Clash}
 
 -- the answer for some literals is that for others, where each are of the closure of the other
 pub closes_between : {R : LiteralSet → Type 0} {G H : ℤ → Type 0} → ((l : ℤ) → G l → H l) → ((l : ℤ) → H l → Least R G l) → (a : Answer) → Closes R H a → Closes R G a
@@ -56,25 +55,20 @@ closed_struck s m u p h t q w d =
     (closed_strikes s (has m) u f b p h (index_at f p) w.3 i.0 w.4 (λ j. d (w.5 ∙ ap (place_of (group_at f p)) (sym j) ∙ i.1)) (subst (λ y. T (has m (pos (suc y)))) (sym i.1) t))
 
 -- and no clause may act
-pub closed_quiet : (s : ClauseSet) (m : List ℕ) → MarksOk s m → (x : ℕ) → InSlots s x → sum_of m (group_in x) < 2048 → ⊥
-closed_quiet s m ok x h b = ⊎_elim
-    (λ k. has_single m (pos (suc (place_of (group_in x) 0))) (slot_lasts s (has m) ok.closed x h 0 (omega arith) (λ j c n. k.1 j c)) (k.1 0 (omega arith)))
-    (λ k. omega (arith, k.3, byte_true m (place_of (group_in x) k.0) (slot_lasts s (has m) ok.closed x h k.0 k.1 k.4)))
-    (sum_small m (group_in x) ok.marks b)
+pub closed_quiet : (s : ClauseSet) (m : List ℕ) → UnitClosed (clauses_of s) (has m) → (x : ℕ) → InSlots s x → Acts m x → ⊥
+closed_quiet s m u x h w = w.3 (slot_lasts s (has m) u x h w.0 w.1 w.2)
 
-pub state_ready : (s : ClauseSet) {st : State} {l : Worklist} {E : ℕ → Type 0} → Closed s st → (l.listed ≡ 0) × (length l.numbers ≡ 2952) → Ready s E st l
+pub state_ready : (s : ClauseSet) {st : State} {l : Worklist} → Closed s st → (l.listed ≡ 0) × (length l.numbers ≡ 361) → Ready s st l
 state_ready s {st} ok none =
     record {
       marks = ok.marks.marks;
       sums = ok.sums;
       long = none.1;
-      room = omega (arith, none.0);
-      numbers = λ i h. absurd (omega (arith, none.0));
-      acting = λ x h b. absurd (closed_quiet s st.marks ok.marks x h (let e = ok.sums.sums x h in omega (arith, e, b)));
+      lists = record { sound = λ i h. absurd (omega (arith, none.0)); once = λ i j h k. absurd (omega (arith, none.0, k)); complete = λ x h w. absurd (closed_quiet s st.marks ok.marks.closed x h w) };
     }
 
 -- with no clause listed the marks are closed
-module _ (s : ClauseSet) {st : State} {l : Worklist} (r : Ready s (λ x. ⊥) st l) (none : l.listed ≡ 0) (struck : Struck s st.marks) where
+module _ (s : ClauseSet) {st : State} {l : Worklist} (r : Ready s st l) (none : l.listed ≡ 0) (struck : Struck s st.marks) where
   abbrev m : List ℕ
   m = st.marks
 
@@ -87,15 +81,14 @@ module _ (s : ClauseSet) {st : State} {l : Worklist} (r : Ready s (λ x. ⊥) st
       struck (place_of (group_at f p) i) q t (place_of (group_at f p) j) (number_of f, n, number_below f, j, d, ap (λ y. place_of y j) (sym g))
       (λ y. e (sym (place_once p b f j i d c y))))
       (λ f n p b k c all.
-      let x = slot_at f p in
       let e = slot_group p b f in
       subst (λ g. True m (place_of g k)) e
-      (sum_large m (group_in x) (large x (slot_in p b s f n)) k c (subst (λ g. place_of g k < 729) (sym e) (place_at_lem p b f k c).0) (λ j d y. subst (λ g. False m (place_of g j)) (sym e) (all j d y))))
+      (lasts (slot_at f p) (slot_in p b s f n) k c (λ j d y. subst (λ g. False m (place_of g j)) (sym e) (all j d y))))
     where
-      large : (x : ℕ) → InSlots s x → 2048 ≤ sum_of m (group_in x)
-      large x h = elim (dec_lt (sum_of m (group_in x)) 2048) [
-        | yes b ↦ absurd (⊎_elim absurd (λ k. omega (arith, none, k.1)) (r.acting x h (let e = r.sums.sums x h in omega (arith, e, b))))
-        | no b ↦ omega arith
+      lasts : (x : ℕ) → InSlots s x → (k : ℕ) → k < 9 → AllBut m (group_in x) k → True m (place_of (group_in x) k)
+      lasts x h k c all = elim (ℕ_discrete (get_or m (place_of (group_in x) k) 0) 1) [
+        | yes e ↦ true_byte m (place_of (group_in x) k) e
+        | no e ↦ (let w = r.lists.complete x h (k, c, all, (λ t. e (byte_true m (place_of (group_in x) k) t))) in absurd (omega (arith, none, w.1)))
       ]
 
   pub ready_state : Closed s st

@@ -34,7 +34,7 @@ use Rattle.worklist.proofs.Rules.{groups_closed}
 use Rattle.std.specs.Prelude.{Result}
 use Rattle.worklist.specs.declared.acting.State.{State}
 use Rattle.propagation.specs.Steps.{MarksOk, Closed, answer_of, ComesTo}
-use Rattle.propagation.specs.declared.close.Clash.{Clash}
+use Rattle.worklist.specs.declared.acting.Clash.{Clash}
 use Rattle.propagation.proofs.Closing.{closes_between}
 
 -- the sum of the q-th group of each kind where nothing is decided: a test that is computed

@@ -7,7 +7,7 @@ use Rattle.closure.specs.Marks.{has, IsMarks}
 use Rattle.closure.specs.Propagation.{Answer, clash, closed, Closes}
 use Rattle.worklist.specs.Sums.{SumsOk}
 use Rattle.worklist.specs.declared.acting.State.{State}
-use Rattle.propagation.specs.declared.close.Clash.{Clash}
+use Rattle.worklist.specs.declared.acting.Clash.{Clash}
 
 -- marks that the unit rule closes
 pub record MarksOk (s : ClauseSet) (m : List ℕ) : Type 0 where

@@ -1,48 +1,40 @@
 // Unit closures: of marks with one literal more, and of a grid's givens. The clauses that are listed are looked at one by one, until none is
 // left or one is a contradiction.
-ghost use Rattle.std.specs.Prelude.{◌≡◌, ℕ, suc, ◌<◌, T, pos, length};
+ghost use Rattle.std.specs.Prelude.{◌≡◌, ℕ, suc, ◌<◌, T, pos, Some};
 ghost use mathlib.Core.List.{Memᴰ};
 ghost use Rattle.clauses.specs.Literal.{Literal};
 ghost use Rattle.clauses.specs.Models.{givens};
 ghost use Rattle.clauses.specs.declared.ClauseSet.TheVariants.{Extended};
 ghost use Rattle.closure.specs.Closure.{With};
 ghost use Rattle.closure.specs.Marks.{has, is_decided, blank};
-ghost use Rattle.worklist.specs.Acting.{Ready, Struck};
+ghost use Rattle.worklist.specs.Acting.{Ready, Struck, Last, StepsTo};
 ghost use Rattle.worklist.specs.Sums.{SumsOk};
-ghost use Rattle.propagation.specs.Looks.{IsClause, OffList, LooksTo};
 ghost use Rattle.propagation.specs.Steps.{Closed, ClosesTo, ComesTo};
 
 use clauses::{ClauseSet, literal};
 use grid::legal::is_digit;
 use groups::slot_of;
-use worklist::acting::{State, Worklist};
+use worklist::acting::{Clash, State, Worklist};
 
-// A contradiction.
-#[derive(Clone, Copy)]
-pub struct Clash;
-
-// Looks at a clause that was listed: a contradiction where all its places are false; where one is left, that place becomes true.
+// Looks at the clause that was listed last: a contradiction where all its places are false; else one is left, and becomes true, which takes the clause
+// off the list.
 fn look(state: &mut State, list: &mut Worklist, set: ClauseSet, clause: u16) -> Result<(), Clash>
-    requires { Ready set (OffList clause) state.old list.old × Struck set state.old.marks × IsClause set clause }
-    ensures { LooksTo set state.old list.old state.new list.new result }
+    requires { Ready set state.old list.old × Struck set state.old.marks × Last list.old (Some clause) }
+    ensures { StepsTo set state.old state.old.marks state.new list.new result }
 {
     let sum = usize::from(state.sums[slot_of(clause)]);
-    if 2048 <= sum {
-        return Ok(());
-    }
     if sum == 0 {
         return Err(Clash);
     }
-    state.affirm(list, set, sum - 1024);
-    Ok(())
+    state.affirm(list, set, sum - 1024)
 }
 
 // Looks at all clauses that are listed, and at those that come to be listed meanwhile.
 fn propagate(state: &mut State, list: &mut Worklist, set: ClauseSet) -> Result<(), Clash>
-    requires { Ready set (λ x. ⊥) state.old list.old × Struck set state.old.marks }
+    requires { Ready set state.old list.old × Struck set state.old.marks }
     ensures { ClosesTo set (λ l. T (has state.old.marks l)) state.new result }
 {
-    while let Some(clause) = list.pop() {
+    while let Some(clause) = list.last() {
         look(state, list, set, clause)?;
     }
     Ok(())
@@ -62,9 +54,9 @@ pub fn close_with(
     list.clear();
     let p = literal::mark_index(literal);
     if literal < 0 {
-        state.assign(list, set, p, 2);
+        state.deny(list, set, p);
     } else {
-        state.affirm(list, set, p);
+        state.affirm(list, set, p)?;
     }
     propagate(state, list, set)
 }

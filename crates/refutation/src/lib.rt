@@ -13,8 +13,8 @@ ghost use Rattle.refutation.specs.declared.Unrefuted.TheVariants.{Spent};
 use branching::{Look, Plain, Survey, Test};
 use clauses::ClauseSet;
 use clauses::decode::place;
-use propagation::close::{Clash, close_true};
-use worklist::acting::State;
+use propagation::close::close_true;
+use worklist::acting::{Clash, State};
 
 // Why an attempt does not refute a state: it has become that of a full grid; or the attempt is given up, as the nodes allowed are spent or a place to
 // try is already true.

@@ -5,7 +5,7 @@ use Rattle.closure.specs.Marks.{mark}
 use Rattle.closure.specs.Propagation.{unit_closure}
 use Rattle.closure.specs.Job as job
 use Rattle.propagation.specs.Steps.{Closed}
-use Rattle.propagation.specs.declared.close.Clash.{Clash}
+use Rattle.worklist.specs.declared.acting.Clash.{Clash}
 use Rattle.trials.specs.Known.{KnownOk, PossibleOk}
 use Rattle.trials.specs.declared.trial.End.{End}
 use Rattle.trials.specs.declared.trial.Outcome.{Outcome}

@@ -13,8 +13,8 @@ ghost use Rattle.trials.specs.declared.trial.Outcome.TheVariants.{Contradiction}
 
 use clauses::{ClauseSet, literal};
 use orders::order::Order;
-use propagation::close::{Clash, close_with};
-use worklist::acting::{State, Worklist};
+use propagation::close::close_with;
+use worklist::acting::{Clash, State, Worklist};
 
 // Whether a variable's byte names a literal: bytes, so that marks join them by one `|` each.
 fn is_named(byte: u8, literal: i16) -> bool

@@ -10,7 +10,6 @@ use lib.ListN.{length, get_or, set, length-set}
 use lib.Seq.{get_or-set_same, get_or-set_other}
 use Rattle.clauses.specs.Shape.{place_of}
 use Rattle.clauses.specs.declared.ClauseSet.{ClauseSet}
-use Rattle.closure.proofs.Marks.{decided_bounded}
 use Rattle.groups.specs.Groups.{group_at, kind_at, number_of, pair_number}
 use Rattle.groups.specs.declared.Kind.{Kind}
 use Rattle.worklist.specs.Acting.{Pairs, Along, Opened, Beside, Front, RunListed, ListedTo, Ready}
@@ -25,23 +24,25 @@ front_same ls = record { long = refl; same = λ i h. refl }
 pub front_more : {ls ls' ls'' : List ℕ} → Front ls ls' → Front ls' ls'' → Front ls ls''
 front_more f g = record { long = g.long ∙ f.long; same = λ i h. g.same i h ∙ f.same i h }
 
-pub front_set : (ls : List ℕ) (n c : ℕ) → Front ls (set ls (2916 + n) c)
-front_set ls n c = record { long = length-set ls (2916 + n) c; same = λ i h. get_or-set_other ls (2916 + n) i c 0 (λ e. omega arith) }
+pub front_set : (ls : List ℕ) (n c : ℕ) → Front ls (set ls (325 + n) c)
+front_set ls n c = record { long = length-set ls (325 + n) c; same = λ i h. get_or-set_other ls (325 + n) i c 0 (λ e. omega arith) }
 
 -- the nine-literal clauses that are listed stay listed
-pub ready_front : {s : ClauseSet} {E : ℕ → Type 0} {st : State} {l l' : Worklist} → Front l.numbers l'.numbers → l'.listed ≡ l.listed → Ready s E st l → Ready s E st l'
+pub ready_front : {s : ClauseSet} {st : State} {l l' : Worklist} → Front l.numbers l'.numbers → l'.listed ≡ l.listed → Ready s st l → Ready s st l'
 ready_front {st = st} {l = l} {l' = l'} f e r =
     record {
       marks = r.marks;
       sums = r.sums;
       long = f.long ∙ r.long;
-      room = omega (arith, e, r.room);
-      numbers = λ i h. let b : i < l.listed = omega (arith, e) in let v = r.numbers i b in (v.0, v.1, here i b ∙ v.2);
-      acting = λ x i b. ⊎_elim inl (λ v. inr (v.0, omega (arith, e, v.1), here v.0 v.1 ∙ v.2)) (r.acting x i b);
+      lists = record {
+        sound = λ i h. let b : i < l.listed = omega (arith, e) in let w = r.lists.sound i b in (w.0, w.1, w.2, here i b ∙ w.3);
+        once = λ i j h k q. let b : j < l.listed = omega (arith, e) in r.lists.once i j h b (sym (here i (omega arith)) ∙ q ∙ here j b);
+        complete = λ x h w. let k = r.lists.complete x h w in (k.0, omega (arith, e, k.1), here k.0 k.1 ∙ k.2);
+      };
     }
   where
     here : (i : ℕ) → i < l.listed → get_or l'.numbers i 0 ≡ get_or l.numbers i 0
-    here i h = f.same i (omega (arith, r.room, st.counted, h, decided_bounded st.marks))
+    here i h = f.same i (omega (arith, l.fits))
 
 -- the same pairs, said otherwise
 opened_same : {m ls o : List ℕ} {n : ℕ} {D E : ℕ → ℕ → Type 0}
@@ -81,7 +82,7 @@ pub to_kind : {m : List ℕ} {a i p : ℕ} {ls ls' : List ℕ} {t : Targets} →
 to_kind {a = a} {i = i} {p = p} h t = record { front = t.front; few = omega (arith, t.few); opened = opened_kind a i p h t.opened }
 
 -- one place more, which is listed where it is undecided
-module _ (a i p k : ℕ) (m ls o : List ℕ) (n n' : ℕ) (room : n < 36) (long : length ls ≡ 2952) where
+module _ (a i p k : ℕ) (m ls o : List ℕ) (n n' : ℕ) (room : n < 36) (long : length ls ≡ 361) where
   abbrev place : ℕ
   place = place_of (group_at (kind_at i) p) k
 
@@ -89,14 +90,14 @@ module _ (a i p k : ℕ) (m ls o : List ℕ) (n n' : ℕ) (room : n < 36) (long 
   number = pair_number (kind_at i) p k
 
   pub opened_next : ((get_or m place 0 ≡ 0) × (n' ≡ n + 1)) ⊎ ((get_or m place 0 ≡ 0 → ⊥) × (n' ≡ n))
-      → Opened m (Pairs a i p k) ls o n → Opened m (Pairs a i p (k + 1)) (set ls (2916 + n) number) (set o n place) n'
+      → Opened m (Pairs a i p k) ls o n → Opened m (Pairs a i p (k + 1)) (set ls (325 + n) number) (set o n place) n'
   opened_next listed r =
       record {
         long = length-set o n place ∙ r.long;
         sound = λ j h. elim (dec_lt j n) [
           | yes b ↦ (let w = r.sound j b in moved (there j b) (numbered j b) (wider _ _ w.0) w.1)
           | no b ↦ ⊎_elim
-              (λ w. let e : j ≡ n = omega (arith, w.1) in moved (ap (λ y. get_or (set o n place) y 0) e ∙ here) (ap (λ y. get_or (set ls (2916 + n) number) (2916 + y) 0) e ∙ new) (inr last) w.0)
+              (λ w. let e : j ≡ n = omega (arith, w.1) in moved (ap (λ y. get_or (set o n place) y 0) e ∙ here) (ap (λ y. get_or (set ls (325 + n) number) (325 + y) 0) e ∙ new) (inr last) w.0)
               (λ w. absurd (omega (arith, w.1))) listed
         ];
         complete = λ q c s z. ⊎_elim (λ w. keep q c (r.complete q c (inl w) z)) (λ w. at q c w z) s;
@@ -105,14 +106,14 @@ module _ (a i p k : ℕ) (m ls o : List ℕ) (n n' : ℕ) (room : n < 36) (long 
       here : get_or (set o n place) n 0 ≡ place
       here = get_or-set_same o n place 0 (omega (arith, r.long, room))
 
-      new : get_or (set ls (2916 + n) number) (2916 + n) 0 ≡ number
-      new = get_or-set_same ls (2916 + n) number 0 (omega (arith, long, room))
+      new : get_or (set ls (325 + n) number) (325 + n) 0 ≡ number
+      new = get_or-set_same ls (325 + n) number 0 (omega (arith, long, room))
 
       there : (j : ℕ) → j < n → get_or (set o n place) j 0 ≡ get_or o j 0
       there j b = get_or-set_other o n j place 0 (λ e. omega arith)
 
-      numbered : (j : ℕ) → j < n → get_or (set ls (2916 + n) number) (2916 + j) 0 ≡ get_or ls (2916 + j) 0
-      numbered j b = get_or-set_other ls (2916 + n) (2916 + j) number 0 (λ e. omega arith)
+      numbered : (j : ℕ) → j < n → get_or (set ls (325 + n) number) (325 + j) 0 ≡ get_or ls (325 + j) 0
+      numbered j b = get_or-set_other ls (325 + n) (325 + j) number 0 (λ e. omega arith)
 
       moved : {q c x y : ℕ} → q ≡ x → c ≡ y → Pairs a i p (k + 1) x y → get_or m x 0 ≡ 0 → Pairs a i p (k + 1) q c × (get_or m q 0 ≡ 0)
       moved e f d z = rw (e, f) (d, z)
@@ -123,12 +124,12 @@ module _ (a i p k : ℕ) (m ls o : List ℕ) (n n' : ℕ) (room : n < 36) (long 
       wider : (q c : ℕ) → Pairs a i p k q c → Pairs a i p (k + 1) q c
       wider q c s = ⊎_elim inl (λ w. inr (w.0, omega (arith, w.1), w.2, w.3)) s
 
-      keep : (q c : ℕ) → Beside ls o n c q → Beside (set ls (2916 + n) number) (set o n place) n' c q
+      keep : (q c : ℕ) → Beside ls o n c q → Beside (set ls (325 + n) number) (set o n place) n' c q
       keep q c w =
           let b : w.0 < n' = ⊎_elim (λ u. omega (arith, w.1, u.1)) (λ u. omega (arith, w.1, u.1)) listed in
           (w.0, b, numbered w.0 w.1 ∙ w.2, there w.0 w.1 ∙ w.3)
 
-      at : (q c : ℕ) → Along i p (k + 1) q c → get_or m q 0 ≡ 0 → Beside (set ls (2916 + n) number) (set o n place) n' c q
+      at : (q c : ℕ) → Along i p (k + 1) q c → get_or m q 0 ≡ 0 → Beside (set ls (325 + n) number) (set o n place) n' c q
       at q c w z = elim (dec_lt w.0 k) [
         | yes b ↦ keep q c (r.complete q c (inr (w.0, b, w.2, w.3)) z)
         | no b ↦ (

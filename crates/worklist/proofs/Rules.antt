@@ -4,7 +4,7 @@
 use mathlib.Core.Path.{◌≡◌, refl, ap, sym, subst, ◌∙◌}
 use mathlib.Core.Logic.{⊎_elim}
 use mathlib.Core.List.Memᴰ
-use mathlib.Core.List.{[], ◌∷◌, Memᴰ}
+use mathlib.Core.List.{List, [], ◌∷◌, Memᴰ}
 use Prim.Native.Nat.{ℕ, suc, ◌<◌}
 use native.Mathlib.Decide.{dec_lt}
 use native.Mathlib.Omega.{arith}
@@ -19,9 +19,14 @@ use Rattle.clauses.specs.declared.Shape.TheVariants.{OneOf, NotBoth}
 use Rattle.clauses.proofs.Members.{over_iff, member_iff}
 use Rattle.closure.specs.Sets.{LiteralSet}
 use Rattle.closure.specs.Closure.{UnitClosed}
-use Rattle.groups.specs.Groups.{group_at, PairKind, NineKind}
+use Rattle.closure.specs.Marks.{IsMarks}
+use Rattle.closure.proofs.Sets.{least_given}
+use Rattle.groups.specs.Groups.{group_at, group_in, PairKind, NineKind}
 use Rattle.groups.specs.declared.Kind.{Kind}
-use Rattle.groups.proofs.Slots.{group_is, by_kind, place_once, pair_in, in_pair, nine_in, in_nine}
+use Rattle.groups.proofs.Slots.{group_is, by_kind, by_slot, place_once, pair_in, in_pair, nine_in, in_nine}
+use Rattle.worklist.specs.Sums.{InSlots, sum_of}
+use Rattle.worklist.specs.Acting.{Clashes}
+use Rattle.worklist.proofs.Sums.{sum_small}
 
 module _ (s : ClauseSet) (S : LiteralSet) where
   -- in a group a true place strikes the others; the last place left is true
@@ -97,3 +102,15 @@ module _ (s : ClauseSet) (S : LiteralSet) where
     groups_closed c m l at others =
         let w = (member_iff s c).0 m in
         shape_closes w.0 w.1 w.2 l (subst (Memᴰ l) (sym w.3) at) (λ x i n. others x (subst (Memᴰ x) w.3 i) n)
+
+-- in a closed set the last place left of a slot's group is true
+pub slot_lasts : (s : ClauseSet) (S : LiteralSet) → UnitClosed (clauses_of s) S → (x : ℕ) → InSlots s x → Lasts s S (group_in x)
+slot_lasts s S u x h = by_slot s (Lasts s S) (λ f n p b. closed_lasts s S u f n p b) x h
+
+-- so a clause with no place left is a contradiction
+pub none_left : (s : ClauseSet) (m : List ℕ) (x : ℕ) → IsMarks m → InSlots s x → sum_of m (group_in x) ≡ 0 → Clashes s m
+none_left s m x i h z = ⊎_elim
+    (λ j. let p = place_of (group_in x) 0 in
+    (p, (λ S u g. slot_lasts s S u x h 0 (omega arith) (λ i b n. g _ (j.1 i b))), least_given (UnitClosed (clauses_of s)) _ (j.1 0 (omega arith))))
+    (λ j. absurd (omega (arith, z, j.2)))
+    (sum_small m (group_in x) i (omega (arith, z)))

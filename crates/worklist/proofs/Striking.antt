@@ -24,19 +24,19 @@ signs_differ a b e = let z : ◌≡◌ {A = ℕ} 0 1 = cc in omega arith
 
 module _ (s : ClauseSet) where
   -- no place
-  pub strikes_none : {O : ℕ → Type 0} {st : State} {l : Worklist} → ((q : ℕ) → O q → ⊥) → Ready s (λ x. ⊥) st l → Strikes s O st.marks st l
+  pub strikes_none : {O : ℕ → Type 0} {st : State} {l : Worklist} → ((q : ℕ) → O q → ⊥) → Ready s st l → Strikes s O st.marks st l
   strikes_none n r = record { ready = r; keeps = λ l t. t; struck = λ q o. absurd (n q o); only = λ l t. inl t }
 
   module _ (q : ℕ) {st : State} {l : Worklist} (h : q < 729) where
     -- a place that is false
-    pub strikes_already : Ready s (λ x. ⊥) st l → (True st.marks q → ⊥) → (get_or st.marks q 0 ≡ 0 → ⊥) → Strikes s (λ x. x ≡ q) st.marks st l
+    pub strikes_already : Ready s st l → (True st.marks q → ⊥) → (get_or st.marks q 0 ≡ 0 → ⊥) → Strikes s (λ x. x ≡ q) st.marks st l
     strikes_already r n z =
         let e : get_or st.marks q 0 ≡ 1 → ⊥ = λ e. n (true_byte st.marks q e) in
         let f : False st.marks q = false_byte st.marks q (omega (arith, r.marks.small q, e, z)) in
         record { ready = r; keeps = λ l t. t; struck = λ x o. subst (False st.marks) (sym o) f; only = λ l t. inl t }
 
     -- a place that is undecided
-    pub strikes_new : {st' : State} {l' : Worklist} → Ready s (λ x. ⊥) st l → get_or st.marks q 0 ≡ 0 → st'.marks ≡ set st.marks q 2 → Ready s (λ x. ⊥) st' l'
+    pub strikes_new : {st' : State} {l' : Worklist} → Ready s st l → get_or st.marks q 0 ≡ 0 → st'.marks ≡ set st.marks q 2 → Ready s st' l'
         → Strikes s (λ x. x ≡ q) st.marks st' l'
     strikes_new r z d r' =
         let e = subst (λ m. (k : ℤ) → T (has m k) ↔ With (has st.marks) (negsuc q) k) (sym d) (has_set st.marks (negsuc q) r.marks h z) in

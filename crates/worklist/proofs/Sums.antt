@@ -4,7 +4,7 @@ use mathlib.Core.Path.{◌≡◌, refl, ap, sym, ◌∙◌}
 use mathlib.Core.Logic.{◌⊎◌, inl, inr, ⊎_elim}
 use mathlib.Core.List.{List}
 use Prim.Native.Nat.{ℕ, zero, suc, ◌+◌, ◌*◌, ◌≤◌, ◌<◌}
-use native.Mathlib.Decide.{ℕ_discrete}
+use native.Mathlib.Decide.{ℕ_discrete, dec_lt}
 use native.Mathlib.Omega.{arith}
 use lib.ListN.{length, get_or, set}
 use lib.Seq.{get_or-set_same, get_or-set_other}
@@ -16,7 +16,7 @@ use Rattle.clauses.specs.declared.Group.{Group}
 use Rattle.closure.specs.Marks.{has, IsMarks}
 use Rattle.groups.specs.Groups.{group_in}
 use Rattle.worklist.specs.Sums.{weight, sum_of}
-use Rattle.worklist.specs.Acting.{True, False, AllBut}
+use Rattle.worklist.specs.Acting.{True, False, AllBut, Acts}
 use Rattle.groups.proofs.Slots.{slot_place, slot_once}
 
 -- two sums that differ at one number
@@ -162,6 +162,19 @@ module _ (m : List ℕ) (x : ℕ) (h : x < 324) where
     unfolding sum_of
     sum_kept n = total_same 9 (λ j. weight (get_or (set m p b) (place_of (group_in x) j) 0) (place_of (group_in x) j)) (λ j. weight (get_or m (place_of (group_in x) j) 0) (place_of (group_in x) j))
         (λ j d. ap (λ y. weight y (place_of (group_in x) j)) (get_or-set_other m p (place_of (group_in x) j) b 0 (λ q. n j d q)))
+
+-- it is below 2,048 exactly where the clause may act
+pub sum_acts : (m : List ℕ) (x : ℕ) → IsMarks m → sum_of m (group_in x) < 2048 → Acts m x
+sum_acts m x i h = ⊎_elim
+    (λ r. (0, omega arith, (λ j c d. r.1 j c), λ t. omega (arith, byte_true m (place_of (group_in x) 0) t, byte_false m (place_of (group_in x) 0) (r.1 0 (omega arith)))))
+    (λ r. (r.0, r.1, r.4, λ t. omega (arith, byte_true m (place_of (group_in x) r.0) t, r.3)))
+    (sum_small m (group_in x) i h)
+
+pub acts_sum : (m : List ℕ) (x : ℕ) → x < 324 → Acts m x → sum_of m (group_in x) < 2048
+acts_sum m x h w = elim (dec_lt (sum_of m (group_in x)) 2048) [
+  | yes b ↦ b
+  | no b ↦ absurd (w.3 (sum_large m (group_in x) (omega arith) w.0 w.1 (slot_place x h w.0 w.1).0 w.2))
+]
 
 -- an undecided place of it weighs its part
 pub sum_least : (m : List ℕ) (x p k : ℕ) → x < 324 → p < length m → get_or m p 0 ≡ 0 → k < 9 → place_of (group_in x) k ≡ p → 1024 + p ≤ sum_of m (group_in x)

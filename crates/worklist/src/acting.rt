@@ -1,53 +1,77 @@
-// Marks with a sum for each nine-literal clause, and a list of the clauses that may act: nine-literal clauses from its front, and from 2,916 on
-// two-literal ones, pairs, with the place that each would strike beside it. A place that is decided changes the sums of the clauses that it is
-// in, and those that come to act are listed. A place that becomes true lists its pairs, and these act at once, so that between two steps none is left.
+// Marks with a sum for each nine-literal clause, and a list of exactly the clauses that may act: nine-literal clauses from its front, and from 325 on
+// two-literal ones, pairs, with the place that each would strike beside it. A place that is decided changes the sums of the clauses that it is in. One
+// that becomes false lists those that come to act; one that becomes true takes its own off, and lists its pairs, and these act at once, so that
+// between two steps none is left.
 ghost use Rattle.std.specs.Prelude.{◌≡◌, ℕ, ◌+◌, ◌*◌, ◌≤◌, ◌<◌, length, set as update};
-ghost use Rattle.closure.specs.Marks.{decided as decisions};
+ghost use Rattle.closure.specs.Marks.{decided as decisions, IsMarks};
+ghost use Rattle.clauses.specs.declared.ClauseSet.TheVariants.{Extended};
 ghost use Rattle.groups.specs.Groups.{number_of, first_pair, IsRun};
-ghost use Rattle.worklist.specs.Sums.{weight as weight_of};
+ghost use Rattle.worklist.specs.Sums.{SumsOk};
 
 use clauses::ClauseSet;
-use groups::{Kind, nine_kinds, pair_table};
+use groups::{Kind, nine_kinds, pair_table, slot_of};
+
+// A contradiction.
+#[derive(Clone, Copy)]
+pub struct Clash;
 
 // The list of clauses that may act, and how many nine-literal ones are on it. It is lent for the closures' work alone: what it held before means
 // nothing to them. Its memory is fixed, since the library has no heap.
 #[derive(Drop)]
 pub struct Worklist {
-    numbers: [u16; 2952],
+    numbers: [u16; 361],
     listed: usize,
-    ghost fits: { listed ≤ 2952 },
+    ghost fits: { listed ≤ 324 },
 }
 
 impl Worklist {
-    ghost use Rattle.worklist.specs.Acting.{Popped};
+    ghost use Rattle.worklist.specs.Acting.{Last, Lists, On, Settled};
 
     // With nothing on it.
     pub fn new() -> Worklist
         ensures { result.listed ≡ 0 }
     {
         Worklist {
-            numbers: [0; 2952],
+            numbers: [0; 361],
             listed: 0,
         }
     }
 
     // Takes everything off the list.
     pub fn clear(&mut self)
-        ensures { (self.new.listed ≡ 0) × (length self.new.numbers ≡ 2952) }
+        ensures { (self.new.listed ≡ 0) × (length self.new.numbers ≡ 361) }
     {
         self.listed = 0;
     }
 
-    // The clause that was listed last, which is taken off.
-    pub fn pop(&mut self) -> Option<u16>
-        ensures { Popped self.old self.new result }
+    // The clause that was listed last.
+    pub fn last(&self) -> Option<u16>
+        ensures { Last self.now result }
     {
         if self.listed == 0 {
             None
         } else {
-            self.listed -= 1;
-            Some(self.numbers[self.listed])
+            Some(self.numbers[self.listed - 1])
         }
+    }
+
+    // Takes off the clauses that have a true place. A contradiction, where one that stays has no place left, is found here, and not when its turn comes.
+    fn settle(&mut self, sums: &[u16; 324]) -> Result<(), Clash>
+        requires { Lists Extended (On self.old) self.old.numbers self.old.listed × (length self.old.numbers ≡ 361) }
+        ensures { Settled sums.now self.old self.new result }
+    {
+        let mut n = 0;
+        let mut clash = false;
+        for i in 0..self.listed {
+            let clause = self.numbers[i];
+            let sum = sums[slot_of(clause)];
+            self.numbers[n] = clause;
+            // It is counted only where it may act, with no branch.
+            n = if sum < 2048 { n + 1 } else { n };
+            clash |= sum == 0;
+        }
+        self.listed = n;
+        if clash { Err(Clash) } else { Ok(()) }
     }
 }
 
@@ -67,7 +91,7 @@ impl Targets {
     #[tactic(auto, using(groups::proofs::Pairs::row_most, groups::proofs::Pairs::number_small, groups::proofs::Slots::place_small))]
     fn list_run(
         &mut self,
-        numbers: &mut [u16; 2952],
+        numbers: &mut [u16; 361],
         marks: &[u8; 729],
         kind: Kind,
         p: usize,
@@ -85,7 +109,7 @@ impl Targets {
         for k in from..to {
             let q = line.place(k);
             let number = first + usize::from(table[row + k]);
-            numbers[2916 + n] = number as u16;
+            numbers[325 + n] = number as u16;
             self.places[n] = q as u16;
             // It is counted only where it may act, with no branch.
             n = if marks[q] == 0 { n + 1 } else { n };
@@ -94,7 +118,7 @@ impl Targets {
     }
 
     // All pairs of p that may act, where none is listed yet.
-    fn list_pairs(&mut self, numbers: &mut [u16; 2952], marks: &[u8; 729], set: ClauseSet, p: usize)
+    fn list_pairs(&mut self, numbers: &mut [u16; 361], marks: &[u8; 729], set: ClauseSet, p: usize)
         requires { (self.old.count ≡ 0) × (p < 729) }
         ensures { ListedTo marks.now (first_pair set) 3 p 9 numbers.old numbers.new self.new }
     {
@@ -107,18 +131,6 @@ impl Targets {
         self.list_run(numbers, marks, Kind::Box, p, 0, 3);
         self.list_run(numbers, marks, Kind::Box, p, 3, 6);
         self.list_run(numbers, marks, Kind::Box, p, 6, 9);
-    }
-}
-
-// What a place weighs by its mark.
-fn weight(mark: u8, p: usize) -> usize
-    requires { p < 729 }
-    ensures { result ≡ weight_of mark p }
-{
-    match mark {
-        0 => 1024 + p,
-        1 => 2048 + p,
-        _ => 0,
     }
 }
 
@@ -135,44 +147,59 @@ pub struct State {
 }
 
 impl State {
-    ghost use Rattle.worklist.specs.Acting.{Ready, At, Struck, Undecided, IsSign, PairsReady, True, Struckable, Strikes, Stepped};
+    ghost use Rattle.worklist.specs.Acting.{Ready, Struck, Undecided, PairsReady, True, Struckable, Strikes, StepsTo};
 
-    // An undecided place gets a mark. Each clause that it is in is written to the list, and stays where it may act.
+    // An undecided place becomes true: it weighs more.
     #[tactic(auto, using(groups::proofs::Slots::slot_below))]
     #[inline]
-    pub fn assign(&mut self, list: &mut Worklist, set: ClauseSet, p: usize, mark: u8)
-        requires { Ready set (At p) self.old list.old × Undecided self.old.marks p × IsSign mark }
-        ensures { (self.new.marks ≡ update self.old.marks p mark) × (self.new.decided ≡ self.old.decided + 1)
-            × Ready set (λ x. ⊥) self.new list.new }
+    fn raise(&mut self, set: ClauseSet, p: usize)
+        requires { IsMarks self.old.marks × SumsOk set self.old.marks self.old.sums × Undecided self.old.marks p }
+        ensures { (self.new.marks ≡ update self.old.marks p 1) × (self.new.decided ≡ self.old.decided + 1) × SumsOk set self.new.marks self.new.sums }
     {
+        for &kind in nine_kinds(set) {
+            self.sums[kind.slot_at(p)] += 1024;
+        }
+        self.marks[p] = 1;
+        self.decided += 1;
+    }
+
+    // An undecided place becomes false: it weighs nothing. Each clause that it is in is written to the list, and stays where one place of it comes to be
+    // left; where none does, it is on the list.
+    #[tactic(auto, using(groups::proofs::Slots::slot_below))]
+    #[inline]
+    pub fn deny(&mut self, list: &mut Worklist, set: ClauseSet, p: usize)
+        requires { Ready set self.old list.old × Undecided self.old.marks p }
+        ensures { (self.new.marks ≡ update self.old.marks p 2) × (self.new.decided ≡ self.old.decided + 1) × Ready set self.new list.new }
+    {
+        let weight = 1024 + p as u16;
         let mut n = list.listed;
         for &kind in nine_kinds(set) {
             let slot = kind.slot_at(p);
-            let sum = usize::from(self.sums[slot]) + weight(mark, p) - (1024 + p);
-            self.sums[slot] = sum as u16;
+            let sum = self.sums[slot] - weight;
+            self.sums[slot] = sum;
             list.numbers[n] = kind.clause_at(p);
-            // It is counted only where it may act, with no branch.
-            n = if sum < 2048 { n + 1 } else { n };
+            // It is counted only where one place comes to be left, with no branch.
+            n = if 1024 <= sum && sum < 2048 { n + 1 } else { n };
         }
         list.listed = n;
-        self.marks[p] = mark;
+        self.marks[p] = 2;
         self.decided += 1;
     }
 
     // A place becomes false, if it is not.
     fn strike(&mut self, list: &mut Worklist, set: ClauseSet, q: usize)
-        requires { Ready set (λ x. ⊥) self.old list.old × (q < 729) × (True self.old.marks q → ⊥) }
+        requires { Ready set self.old list.old × (q < 729) × (True self.old.marks q → ⊥) }
         ensures { Strikes set (λ x. x ≡ q) self.old.marks self.new list.new }
     {
         if self.marks[q] == 0 {
-            self.assign(list, set, q, 2);
+            self.deny(list, set, q);
         }
     }
 
     // All pairs that are listed act, the last one first: the place beside each becomes false. They are counted: of a reversed iterator over a slice a
     // loop knows only what it has yielded.
     fn strike_all(&mut self, list: &mut Worklist, set: ClauseSet, targets: &Targets)
-        requires { Ready set (λ x. ⊥) self.old list.old × PairsReady set self.old.marks list.old.numbers targets.now }
+        requires { Ready set self.old list.old × PairsReady set self.old.marks list.old.numbers targets.now }
         ensures { Strikes set (Struckable targets.now) self.old.marks self.new list.new }
     {
         for i in (0..targets.count).rev() {
@@ -181,16 +208,18 @@ impl State {
     }
 
     // An undecided place becomes true, and its pairs strike the others of its groups.
-    pub fn affirm(&mut self, list: &mut Worklist, set: ClauseSet, p: usize)
-        requires { Ready set (At p) self.old list.old × Struck set self.old.marks × Undecided self.old.marks p }
-        ensures { Stepped set (update self.old.marks p 1) self.new list.new × (self.old.decided < self.new.decided) }
+    pub fn affirm(&mut self, list: &mut Worklist, set: ClauseSet, p: usize) -> Result<(), Clash>
+        requires { Ready set self.old list.old × Struck set self.old.marks × Undecided self.old.marks p }
+        ensures { StepsTo set self.old (update self.old.marks p 1) self.new list.new result }
     {
-        self.assign(list, set, p, 1);
+        self.raise(set, p);
+        list.settle(&self.sums)?;
         let mut targets = Targets {
             places: [0; 36],
             count: 0,
         };
         targets.list_pairs(&mut list.numbers, &self.marks, set, p);
         self.strike_all(list, set, &targets);
+        Ok(())
     }
 }

@@ -1,5 +1,5 @@
 -- Each look leaves less to do; with nothing left the marks are the unit closure.
-use Prim.Native.Nat.{◌+◌, ◌*◌, ◌-◌}
+use Prim.Native.Nat.{◌-◌}
 use Rattle.worklist.specs.Acting.{Stepped}
 use Rattle.propagation.proofs.close.propagate.Given as goal
 
@@ -7,4 +7,4 @@ abbrev pub invariant-loop-clause : goal.invariant-loop-clause
 invariant-loop-clause l = Stepped l.set l.fn.state.marks l.state l.list
 
 abbrev pub decreases-loop-clause : goal.decreases-loop-clause
-decreases-loop-clause l = (729 - l.state.decided) * 2917 + l.list.listed
+decreases-loop-clause l = 729 - l.state.decided

@@ -15,7 +15,7 @@ use Rattle.closure.specs.Propagation.{Answer, unit_closure}
 use Rattle.closure.specs.Job.{broken, try}
 use Rattle.worklist.specs.declared.acting.State.{State}
 use Rattle.propagation.specs.Steps.{ComesTo, answer_of}
-use Rattle.propagation.specs.declared.close.Clash.{Clash}
+use Rattle.worklist.specs.declared.acting.Clash.{Clash}
 use Rattle.propagation.proofs.Closing.{closes_computed}
 use Rattle.trials.specs.Steps.{Tried}
 use Rattle.trials.specs.declared.trial.Job.{Job}

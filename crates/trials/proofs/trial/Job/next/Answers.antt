@@ -14,7 +14,7 @@ use Rattle.closure.specs.Marks.{is_decided, mark}
 use Rattle.closure.specs.Propagation.{unit_closure}
 use Rattle.closure.specs.Job.{Step, Walk, after, try, step, walked, ended, solved}
 use Rattle.worklist.proofs.Literals.{place_read, byte_open}
-use Rattle.propagation.specs.declared.close.Clash.{Clash}
+use Rattle.worklist.specs.declared.acting.Clash.{Clash}
 use Rattle.trials.specs.Known.{Names, Named}
 use Rattle.trials.specs.Steps.{Walking, Tried, Stepped}
 use Rattle.trials.specs.declared.trial.Job.{Job}

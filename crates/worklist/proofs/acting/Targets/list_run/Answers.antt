@@ -44,7 +44,7 @@ loop-k-preserved c =
     let m = a.marks.now in
     let here = c.place-q.ensures ∙ is_place a.kind a.p a.from a.to l.k r.0 v.0 t c.line_of-line.result c.line_of-line.ensures in
     let number = is_number a.kind a.p a.from a.to l.k r.0 v.0 t c.first_number-first.ensures c.row_at-row.ensures c.from.ensures c.pair_table-table.ensures in
-    let long : length a.numbers.now ≡ 2952 = omega arith in
+    let long : length a.numbers.now ≡ 361 = omega arith in
     let room : l.n < 36 = omega (arith, v.2, nine a.kind a.p a.from a.to l.k r.0 v.0 t, r.0.0) in
     let o : ((get_or m c.place-q.result 0 ≡ 0) × (q.n ≡ l.n + 1)) ⊎ ((get_or m c.place-q.result 0 ≡ 0 → ⊥) × (q.n ≡ l.n)) = elim q.branch [
       | then-marks-q-eq0 w ↦ inl (w.if-marks-q-eq0.true, w.n-is)
@@ -56,8 +56,8 @@ loop-k-preserved c =
       front_more v.3 (front_set l.numbers l.n (c.first_number-first.result + c.from.result)),
       λ b h z.
           let D = Pairs b i a.p (l.k + 1) in
-          subst (λ x. Opened m D (set l.numbers (2916 + l.n) x) (set l.self.places l.n c.place-q.result) q.n) (sym number)
-          (subst (λ x. Opened m D (set l.numbers (2916 + l.n) (pair_number (kind_at i) a.p l.k)) (set l.self.places l.n x) q.n) (sym here)
+          subst (λ x. Opened m D (set l.numbers (325 + l.n) x) (set l.self.places l.n c.place-q.result) q.n) (sym number)
+          (subst (λ x. Opened m D (set l.numbers (325 + l.n) (pair_number (kind_at i) a.p l.k)) (set l.self.places l.n x) q.n) (sym here)
           (opened_next b i a.p l.k m l.numbers l.self.places l.n q.n room (v.3.long ∙ long)
           (subst (λ x. ((get_or m x 0 ≡ 0) × (q.n ≡ l.n + 1)) ⊎ ((get_or m x 0 ≡ 0 → ⊥) × (q.n ≡ l.n))) here o) (v.4 b h z))),
     )
