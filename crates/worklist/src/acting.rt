@@ -164,7 +164,7 @@ impl State {
     }
 
     // An undecided place becomes false: it weighs nothing. Each clause that it is in is written to the list, and stays where one place of it comes to be
-    // left; where none does, it is on the list.
+    // left. One that has no place left is on the list already.
     #[tactic(auto, using(groups::proofs::Slots::slot_below))]
     #[inline]
     pub fn deny(&mut self, list: &mut Worklist, set: ClauseSet, p: usize)
@@ -207,7 +207,7 @@ impl State {
         }
     }
 
-    // An undecided place becomes true, and its pairs strike the others of its groups.
+    // An undecided place becomes true, and its pairs strike the others of its groups; or a clause of the list has no place left, a contradiction.
     pub fn affirm(&mut self, list: &mut Worklist, set: ClauseSet, p: usize) -> Result<(), Clash>
         requires { Ready set self.old list.old × Struck set self.old.marks × Undecided self.old.marks p }
         ensures { StepsTo set self.old (update self.old.marks p 1) self.new list.new result }
