@@ -14,10 +14,12 @@ use Rattle.grid.specs.Counting.{tick}
 use Rattle.clauses.specs.Shape.{place_of}
 use Rattle.clauses.specs.declared.ClauseSet.{ClauseSet}
 use Rattle.closure.specs.Marks.{decided_in, decided, IsMarks}
-use Rattle.groups.specs.Groups.{group_in, kind_at, index_at, slot_at, nine_kinds}
+use Rattle.groups.specs.declared.Kind.{Kind}
+use Rattle.groups.specs.declared.Kind.TheVariants.{Cell}
+use Rattle.groups.specs.Groups.{group_in, kind_at, index_at, slot_at, nine_kinds, nines_of}
 use Rattle.worklist.specs.Sums.{weight, sum_of, SumsOk}
 use Rattle.worklist.specs.Acting.{Undecided}
-use Rattle.groups.proofs.Slots.{number_at, slot_kind, slot_group, index_at_lem, slot_place}
+use Rattle.groups.proofs.Slots.{number_at, nines_long, nine_at, slot_kind, slot_group, index_at_lem, slot_place}
 use Rattle.worklist.proofs.Sums.{sum_marked, sum_kept, sum_least, sum_most}
 
 -- a mark at an undecided place decides one variable more
@@ -39,8 +41,11 @@ sign_ticks (suc (suc zero)) h = refl
 sign_ticks (suc (suc (suc b))) h = absurd (omega (arith, h.1))
 
 module _ (m : List ℕ) (p b : ℕ) (marks : IsMarks m) (u : Undecided m p) (sign : IsSign b) where
-  pub one_decided : decided (set m p b) ≡ decided m + 1
+  one_decided : decided (set m p b) ≡ decided m + 1
   one_decided = decided_in_set 729 m p b u.0 (omega (arith, u.0, marks.long)) u.1 (sign_ticks b sign)
+
+  pub counted_set : {m' : List ℕ} {d : ℕ} → d ≡ decided m' → m' ≡ m → d + 1 ≡ decided (set m' p b)
+  counted_set c e = omega (arith, c, ap decided e, one_decided, ap (λ x. decided (set x p b)) e)
 
   pub is_marks_set : IsMarks (set m p b)
   is_marks_set =
@@ -59,6 +64,10 @@ At p x = (k : ℕ) × (k < 9) × (place_of (group_in x) k ≡ p)
 -- the slot of a place, if it has it
 at_slot : (p x : ℕ) → x < 324 → At p x → slot_at (kind_at (x / 81)) p ≡ x
 at_slot p x h w = subst (λ q. slot_at (kind_at (x / 81)) q ≡ x) w.2 (slot_place x h w.0 w.1).1
+
+-- the kind whose turn it is, as the code reads it
+pub turn : (s : ClauseSet) (i p : ℕ) {ks : List Kind} {x : ℕ} → ks ≡ nines_of s → i < length ks → x ≡ slot_at (get_or ks i Cell) p → (x ≡ slot_at (kind_at i) p) × (i < nine_kinds s)
+turn s i p e h r = (r ∙ ap (λ f. slot_at f p) (nine_at s Cell i e h), omega (arith, nines_long s e, h))
 
 -- the sums of the kinds before i are those of the new marks m', and the others those of the old, m
 pub record Weighing (kinds i : ℕ) (m m' a : List ℕ) : Type 0 where

@@ -10,18 +10,14 @@ use Rattle.groups.specs.Groups.{clause_in, kind_at, nine_kinds, slot_at}
 use Rattle.groups.specs.declared.Kind.TheVariants.{Cell}
 use Rattle.groups.proofs.Slots.{nines_below, nines_long, nine_at}
 use Rattle.worklist.proofs.Lists.{lists_few}
-use Rattle.worklist.proofs.Weighing.{one_decided, is_marks_set, least, weighing_next, weighing_none, weighing_all}
+use Rattle.worklist.proofs.Weighing.{counted_set, turn, is_marks_set, least, weighing_next, weighing_none, weighing_all}
 use Rattle.worklist.proofs.Denying.{Leaves, lists_low, ready_low, listed_next}
 use Rattle.worklist.proofs.acting.State.deny.Goals as goal
 use Rattle.worklist.proofs.acting.State.deny.Goals.{After-slot_at-slot, then-sum-ge1024+then-sum-lt2048, else-sum-ge1024, else-sum-ge1024-via-then-sum-ge1024+else-sum-lt2048, else-sum-ge1024-via-else-sum-ge1024}
 
 -- the slot is that of the kind whose turn it is
-module _ (c : After-slot_at-slot) where
-  is_slot : c.slot_at-slot.result ≡ slot_at (kind_at c.loop-kind.kind-index) c.args.p
-  is_slot = c.slot_at-slot.ensures ∙ ap (λ f. slot_at f c.args.p) (nine_at c.args.set Cell c.loop-kind.kind-index c.nine_kinds-kind-items.ensures c.loop-kind-test.true)
-
-  next : c.loop-kind.kind-index < nine_kinds c.args.set
-  next = omega (arith, nines_long c.args.set c.nine_kinds-kind-items.ensures, c.loop-kind-test.true)
+slot_turn : (c : After-slot_at-slot) → (c.slot_at-slot.result ≡ slot_at (kind_at c.loop-kind.kind-index) c.args.p) × (c.loop-kind.kind-index < nine_kinds c.args.set)
+slot_turn c = turn c.args.set c.loop-kind.kind-index c.args.p c.nine_kinds-kind-items.ensures c.loop-kind-test.true c.slot_at-slot.ensures
 
 pub loop-kind-init : goal.loop-kind-init
 loop-kind-init c =
@@ -40,8 +36,8 @@ overflow_sub-sum c =
     let a = c.args in
     let l = c.loop-kind in
     let at = (goal.at.overflow_sub-sum c).After-slot_at-slot in
-    let b = least (nine_kinds a.set) l.kind-index a.p 2 a.self.now.marks l.self.sums (nines_below a.set) (next at) c.requires.0.marks c.requires.1 l.invariant.sums in
-    omega (arith, ap (λ x. get_or l.self.sums x 0) (is_slot at), b)
+    let b = least (nine_kinds a.set) l.kind-index a.p 2 a.self.now.marks l.self.sums (nines_below a.set) (slot_turn at).1 c.requires.0.marks c.requires.1 l.invariant.sums in
+    omega (arith, ap (λ x. get_or l.self.sums x 0) ((slot_turn at).0), b)
 
 pub offset_bounds-list-n : goal.offset_bounds-list-n
 offset_bounds-list-n c = omega (arith, lists_few c.loop-kind.invariant.lists)
@@ -62,8 +58,8 @@ loop-kind-preserved c =
     let w = l.invariant in
     let at = (goal.at.loop-kind-preserved c).After-slot_at-slot in
     let slot = slot_at (kind_at i) a.p in
-    let is_sum : get_or l.self.sums c.slot_at-slot.result 0 ≡ get_or l.self.sums slot 0 = ap (λ x. get_or l.self.sums x 0) (is_slot at) in
-    let b = least (nine_kinds a.set) i a.p 2 m l.self.sums (nines_below a.set) (next at) r.marks c.requires.1 w.sums in
+    let is_sum : get_or l.self.sums c.slot_at-slot.result 0 ≡ get_or l.self.sums slot 0 = ap (λ x. get_or l.self.sums x 0) ((slot_turn at).0) in
+    let b = least (nine_kinds a.set) i a.p 2 m l.self.sums (nines_below a.set) (slot_turn at).1 r.marks c.requires.1 w.sums in
     let v = get_or l.self.sums slot 0 - (1024 + a.p) in
     let n = c.if-sum-ge1024.n in
     let branch : (Leaves v × (n ≡ l.n + 1)) ⊎ ((Leaves v → ⊥) × (n ≡ l.n)) = elim c.if-sum-ge1024.branch [
@@ -77,12 +73,12 @@ loop-kind-preserved c =
       )
     ] in
     let is_clause : c.clause_at.result ≡ clause_in slot = c.clause_at.ensures ∙ ap (λ f. clause_in (slot_at f a.p)) (nine_at a.set Cell i c.nine_kinds-kind-items.ensures c.loop-kind-test.true) in
-    rw (is_slot at, is_clause)
+    rw ((slot_turn at).0, is_clause)
     (record {
       marks = w.marks;
-      sums = weighing_next (nine_kinds a.set) i a.p 2 m l.self.sums (nines_below a.set) (next at) r.marks c.requires.1 w.sums v (omega (arith, b));
+      sums = weighing_next (nine_kinds a.set) i a.p 2 m l.self.sums (nines_below a.set) (slot_turn at).1 r.marks c.requires.1 w.sums v (omega (arith, b));
       long = length-set l.list.numbers l.n (clause_in slot) ∙ w.long;
-      lists = listed_next a.set i a.p m l.self.sums (next at) r.marks c.requires.1 w.sums v (omega (arith, b)) w.long w.lists branch;
+      lists = listed_next a.set i a.p m l.self.sums (slot_turn at).1 r.marks c.requires.1 w.sums v (omega (arith, b)) w.long w.lists branch;
     })
 
 pub invariant_of-list-2 : goal.invariant_of-list-2
@@ -92,10 +88,7 @@ pub overflow_add-self : goal.overflow_add-self
 overflow_add-self c = omega (arith, c.loop-kind.self.counted, decided_bounded c.loop-kind.self.marks)
 
 pub invariant_of-self-2 : goal.invariant_of-self-2
-invariant_of-self-2 c =
-    let a = c.args in
-    let e = c.loop-kind.invariant.marks in
-    record { counted = omega (arith, c.loop-kind.self.counted, ap decided e, one_decided a.self.now.marks a.p 2 c.requires.0.marks c.requires.1 (omega arith, omega arith), ap (λ x. decided (set x a.p 2)) e) }
+invariant_of-self-2 c = record { counted = counted_set c.args.self.now.marks c.args.p 2 c.requires.0.marks c.requires.1 (omega arith, omega arith) c.loop-kind.self.counted c.loop-kind.invariant.marks }
 
 pub returns : goal.returns
 returns c =
