@@ -10,7 +10,7 @@ use native.Mathlib.Omega.{arith}
 use lib.Dec.{T, eqb}
 use lib.ListN.{length, get_or, set, length-set}
 use lib.Seq.{get_or-set_other}
-use Rattle.std.specs.Prelude.{Result, IsErr}
+use Rattle.std.specs.Prelude.{Result, IsErr, IsOk}
 use Rattle.grid.proofs.Completion.{eq_iff}
 use Rattle.clauses.specs.declared.ClauseSet.TheVariants.{Extended}
 use Rattle.closure.proofs.Marks.{or_iff}
@@ -29,6 +29,7 @@ pub record Settling (a : List ℕ) (old : Worklist) (i : ℕ) (ls : List ℕ) (n
   pub rest : (j : ℕ) → i ≤ j → get_or ls j 0 ≡ get_or old.numbers j 0
   pub lists : Lists Extended (λ x. Listed old.numbers i (clause_in x) × Low a x) ls n
   pub clash : T found → (x : ℕ) × (x < 324) × On old x × (get_or a x 0 ≡ 0)
+  pub none : (T found → ⊥) → (x : ℕ) → x < 324 → Listed old.numbers i (clause_in x) → get_or a x 0 ≡ 0 → ⊥
 
 pub settling_none : (a : List ℕ) (old : Worklist) → length old.numbers ≡ 361 → Settling a old 0 old.numbers 0 false
 settling_none a old long =
@@ -38,15 +39,17 @@ settling_none a old long =
       rest = λ j h. refl;
       lists = record { sound = λ i h. absurd (omega arith); once = λ i j h k. absurd (omega arith); complete = λ x h w. absurd (omega (arith, w.0.1)) };
       clash = λ t. absurd t;
+      none = λ f x h k z. omega (arith, k.1);
     }
 
 -- all were looked at
-pub settling_all : (a : List ℕ) (old : Worklist) {i : ℕ} {found : Bool} {l : Worklist} {r : Result (Unit {0}) Clash} → i ≡ old.listed → (IsErr r → T found) → Settling a old i l.numbers l.listed found → Settled a old l r
-settling_all a old {l = l} e f w =
+pub settling_all : (a : List ℕ) (old : Worklist) {i : ℕ} {found : Bool} {l : Worklist} {r : Result (Unit {0}) Clash} → i ≡ old.listed → (IsErr r → T found) → (IsOk r → T found → ⊥) → Settling a old i l.numbers l.listed found → Settled a old l r
+settling_all a old {l = l} e f g w =
     record {
       long = w.long;
       lists = subst (λ i. Lists Extended (λ x. Listed old.numbers i (clause_in x) × Low a x) l.numbers l.listed) e w.lists;
       clash = λ z. w.clash (f z);
+      none = λ o x h k z. w.none (g o) x h (subst (λ i. Listed old.numbers i (clause_in x)) (sym e) k) z;
     }
 
 module _ (a : List ℕ) (old : Worklist) (i : ℕ) (ls : List ℕ) (n : ℕ) (found : Bool) (r : Lists Extended (On old) old.numbers old.listed) (before : i < old.listed) (w : Settling a old i ls n found) where
@@ -94,6 +97,10 @@ module _ (a : List ℕ) (old : Worklist) (i : ℕ) (ls : List ℕ) (n : ℕ) (fo
             (λ x h k. (⊎_elim (λ l. l) (λ e. absurd (let q = ap (λ y. get_or a y 0) e in omega (arith, q, k.1, b.0))) (earlier x h k.0), k.1))))
             branch;
         clash = λ t. ⊎_elim w.clash (λ z. (slot, slot_small, (i, before, (r.sound i before).3), (eq_iff (get_or a slot 0) 0).0 z)) ((or_iff found (eqb (get_or a slot 0) 0)).0 t);
+        none = λ f x h k z. let or = or_iff found (eqb (get_or a slot 0) 0) in ⊎_elim
+            (λ l. w.none (λ t. f (or.1 (inl t))) x h l z)
+            (λ e. f (or.1 (inr ((eq_iff (get_or a slot 0) 0).1 (ap (λ y. get_or a y 0) (sym e) ∙ z)))))
+            (earlier x h k);
       }
     where
       After : ℕ → Type 0

@@ -1,5 +1,5 @@
 -- The list of clauses that may act: what holds of marks, sums and list between two looks at a clause.
-use Rattle.std.specs.Prelude.{◌≡◌, ◌⊎◌, List, ℕ, suc, ◌+◌, ◌*◌, ◌-◌, ◌≤◌, ◌<◌, T, ℤ, pos, negsuc, length, get_or, Some, None, Option, Ok, Err, IsErr, Result}
+use Rattle.std.specs.Prelude.{◌≡◌, ◌⊎◌, List, ℕ, suc, ◌+◌, ◌*◌, ◌-◌, ◌≤◌, ◌<◌, T, ℤ, pos, negsuc, length, get_or, Some, None, Option, Ok, Err, IsErr, IsOk, Result}
 use Rattle.clauses.specs.Clauses.{clauses_of}
 use Rattle.clauses.specs.Shape.{place_of}
 use Rattle.clauses.specs.declared.ClauseSet.{ClauseSet}
@@ -63,11 +63,12 @@ Last l (Some c) = (0 < l.listed) × (c ≡ get_or l.numbers (l.listed - 1) 0)
 abbrev pub On : Worklist → ℕ → Type 0
 On l x = Listed l.numbers l.listed (clause_in x)
 
--- Of the clauses that were listed those stay whose sum is below 2,048; a contradiction only where one of them has the sum 0.
+-- Of the clauses that were listed those stay whose sum is below 2,048; it is a contradiction exactly where one of them has the sum 0.
 pub record Settled (a : List ℕ) (l l' : Worklist) (r : Result (Unit {0}) Clash) : Type 0 where
   pub long : length l'.numbers ≡ 361
   pub lists : Lists Extended (λ x. On l x × (get_or a x 0 < 2048)) l'.numbers l'.listed
   pub clash : IsErr r → (x : ℕ) × (x < 324) × On l x × (get_or a x 0 ≡ 0)
+  pub none : IsOk r → (x : ℕ) → x < 324 → On l x → get_or a x 0 ≡ 0 → ⊥
 
 -- place q is one of the groups at p of the kinds from a on and before i
 abbrev pub Within : ℕ → ℕ → ℕ → ℕ → Type 0

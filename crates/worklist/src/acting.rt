@@ -55,7 +55,7 @@ impl Worklist {
         }
     }
 
-    // Takes off the clauses that have a true place. A contradiction, where one that stays has no place left, is found here, and not when its turn comes.
+    // Takes off the clauses that have a true place; a contradiction where one that stays has no place left.
     fn settle(&mut self, sums: &[u16; 324]) -> Result<(), Clash>
         requires { Lists Extended (On self.old) self.old.numbers self.old.listed × (length self.old.numbers ≡ 361) }
         ensures { Settled sums.now self.old self.new result }

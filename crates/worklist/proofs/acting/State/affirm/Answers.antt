@@ -43,13 +43,10 @@ pub returns : goal.returns
 returns c =
     let a = c.args in
     let r = c.requires in
-    let m = a.self.now.marks in
     let e = c.raise.ensures in
-    let t = c.list_pairs in
-    let v = listed (goal.at.returns c).After-list_pairs in
     let w = c.strike_all.ensures in (
-      affirmed a.set m a.p r.0.marks r.2 r.1 v.opened
-          (subst (λ m. Strikes a.set (Struckable t.new.self) m c.strike_all.new.self c.strike_all.new.list) e.0 w)
-          (is_marks_set m a.p 1 r.0.marks r.2 (omega arith, omega arith)),
+      affirmed a.set a.self.now.marks a.p r.0.marks r.2 r.1 (listed (goal.at.returns c).After-list_pairs).opened
+          (subst (λ m. Strikes a.set (Struckable c.list_pairs.new.self) m c.strike_all.new.self c.strike_all.new.list) e.0 w)
+          (is_marks_set a.self.now.marks a.p 1 r.0.marks r.2 (omega arith, omega arith)),
       omega (arith, e.1, c.raise.new.self.counted, c.strike_all.new.self.counted, decided_rises c.raise.new.self.marks c.strike_all.new.self.marks w.keeps),
     )

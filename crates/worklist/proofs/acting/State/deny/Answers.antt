@@ -28,6 +28,7 @@ loop-kind-init c =
       marks = refl;
       sums = weighing_none a.set m (set m a.p 2) a.self.now.sums r.sums;
       long = r.long;
+      few = lists_few r.lists;
       lists = lists_low a.set m a.self.now.sums r.marks r.sums r.lists;
     }
 
@@ -38,15 +39,6 @@ overflow_sub-sum c =
     let at = (goal.at.overflow_sub-sum c).After-slot_at-slot in
     let b = least (nine_kinds a.set) l.kind-index a.p 2 a.self.now.marks l.self.sums (nines_below a.set) (slot_turn at).1 c.requires.0.marks c.requires.1 l.invariant.sums in
     omega (arith, ap (λ x. get_or l.self.sums x 0) ((slot_turn at).0), b)
-
-pub offset_bounds-list-n : goal.offset_bounds-list-n
-offset_bounds-list-n c = omega (arith, lists_few c.loop-kind.invariant.lists)
-
-pub bounds-list-n : goal.bounds-list-n
-bounds-list-n c = omega (arith, lists_few c.loop-kind.invariant.lists)
-
-pub overflow_add-n : goal.overflow_add-n
-overflow_add-n c = omega (arith, lists_few c.loop-kind.invariant.lists)
 
 pub loop-kind-preserved : goal.loop-kind-preserved
 loop-kind-preserved c =
@@ -73,16 +65,15 @@ loop-kind-preserved c =
       )
     ] in
     let is_clause : c.clause_at.result ≡ clause_in slot = c.clause_at.ensures ∙ ap (λ f. clause_in (slot_at f a.p)) (nine_at a.set Cell i c.nine_kinds-kind-items.ensures c.loop-kind-test.true) in
+    let lists = listed_next a.set i a.p m l.self.sums (slot_turn at).1 r.marks c.requires.1 w.sums v (omega (arith, b)) w.long w.lists branch in
     rw ((slot_turn at).0, is_clause)
     (record {
       marks = w.marks;
       sums = weighing_next (nine_kinds a.set) i a.p 2 m l.self.sums (nines_below a.set) (slot_turn at).1 r.marks c.requires.1 w.sums v (omega (arith, b));
       long = length-set l.list.numbers l.n (clause_in slot) ∙ w.long;
-      lists = listed_next a.set i a.p m l.self.sums (slot_turn at).1 r.marks c.requires.1 w.sums v (omega (arith, b)) w.long w.lists branch;
+      few = lists_few lists;
+      lists = lists;
     })
-
-pub invariant_of-list-2 : goal.invariant_of-list-2
-invariant_of-list-2 c = record { fits = lists_few c.loop-kind.invariant.lists }
 
 pub overflow_add-self : goal.overflow_add-self
 overflow_add-self c = omega (arith, c.loop-kind.self.counted, decided_bounded c.loop-kind.self.marks)

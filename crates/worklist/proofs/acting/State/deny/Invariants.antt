@@ -1,5 +1,6 @@
 -- The sums follow kind by kind, and the list follows them.
 use mathlib.Core.Path.{◌≡◌}
+use Prim.Native.Nat.{◌≤◌}
 use lib.ListN.{length, set}
 use Rattle.groups.specs.Groups.{nine_kinds}
 use Rattle.worklist.specs.Acting.{Lists}
@@ -14,5 +15,6 @@ invariant-loop-kind l =
       marks : l.self.marks ≡ m;
       sums : Weighing (nine_kinds l.fn.set) l.kind-index m (set m l.p 2) l.self.sums;
       long : length l.list.numbers ≡ 361;
+      few : l.n ≤ 324;
       lists : Lists l.fn.set (Low l.self.sums) l.list.numbers l.n;
     }

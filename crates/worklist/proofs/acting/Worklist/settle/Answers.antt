@@ -12,29 +12,20 @@ use Rattle.worklist.proofs.acting.Worklist.settle.Goals as goal
 use Rattle.worklist.proofs.acting.Worklist.settle.Goals.{After-slot_of, then-sum-lt2048, else-sum-lt2048}
 
 -- the slot that the code reads is that of the clause
-is_slot : (c : After-slot_of) → c.slot_of.result ≡ slot c.args.sums.now c.args.self.now c.loop-i.i c.loop-i.self.numbers c.loop-i.n c.loop-i.clash c.requires.0 c.loop-i-test.true c.loop-i.invariant
-is_slot c = let k = c.requires.0.sound c.loop-i.i c.loop-i-test.true in c.slot_of.ensures k.0 k.1 (c.loop-i.invariant.rest c.loop-i.i (omega arith) ∙ k.3)
+is_slot : (c : After-slot_of) → c.slot_of.result ≡ slot c.args.sums.now c.args.self.now c.loop-i.i c.loop-i.self.numbers c.loop-i.n c.loop-i.clash c.requires.0 c.loop-i-test.true c.loop-i.invariant.1
+is_slot c = let k = c.requires.0.sound c.loop-i.i c.loop-i-test.true in c.slot_of.ensures k.0 k.1 (c.loop-i.invariant.1.rest c.loop-i.i (omega arith) ∙ k.3)
 
 below : (c : After-slot_of) → c.slot_of.result < 324
 below c = omega (arith, is_slot c, (c.requires.0.sound c.loop-i.i c.loop-i-test.true).1)
 
 pub loop-i-init : goal.loop-i-init
-loop-i-init c = settling_none c.args.sums.now c.args.self.now c.requires.1
+loop-i-init c = (omega arith, settling_none c.args.sums.now c.args.self.now c.requires.1)
 
 pub offset_bounds-sums-slot_of : goal.offset_bounds-sums-slot_of
 offset_bounds-sums-slot_of c = omega (arith, below c)
 
 pub bounds-sums-slot_of : goal.bounds-sums-slot_of
 bounds-sums-slot_of c = below (goal.at.bounds-sums-slot_of c).After-slot_of
-
-pub offset_bounds-self-n : goal.offset_bounds-self-n
-offset_bounds-self-n c = omega (arith, lists_few c.loop-i.invariant.lists)
-
-pub bounds-self-n : goal.bounds-self-n
-bounds-self-n c = omega (arith, lists_few c.loop-i.invariant.lists)
-
-pub overflow_add-n : goal.overflow_add-n
-overflow_add-n c = omega (arith, lists_few c.loop-i.invariant.lists)
 
 pub loop-i-preserved : goal.loop-i-preserved
 loop-i-preserved c =
@@ -43,17 +34,14 @@ loop-i-preserved c =
     let old = c.args.self.now in
     let s = is_slot (goal.at.loop-i-preserved c).After-slot_of in
     let is_sum = ap (λ x. get_or a x 0) s in
-    rw (s, is_clause a old l.i l.self.numbers l.n l.clash c.requires.0 c.loop-i-test.true l.invariant)
-    (settling_next a old l.i l.self.numbers l.n l.clash c.requires.0 c.loop-i-test.true l.invariant (elim c.if-sum-lt2048.branch [
+    let next = settling_next a old l.i l.self.numbers l.n l.clash c.requires.0 c.loop-i-test.true l.invariant.1 (elim c.if-sum-lt2048.branch [
       | then-sum-lt2048 w ↦ inl (omega (arith, is_sum, w.if-sum-lt2048.true), w.n-is)
       | else-sum-lt2048 w ↦ inr (omega (arith, is_sum, w.if-sum-lt2048.false), w.n-is)
-    ]))
-
-pub invariant_of-self-2 : goal.invariant_of-self-2
-invariant_of-self-2 c = record { fits = lists_few c.loop-i.invariant.lists }
+    ]) in
+    rw (s, is_clause a old l.i l.self.numbers l.n l.clash c.requires.0 c.loop-i-test.true l.invariant.1) (lists_few next.lists, next)
 
 pub returns-then-clash : goal.returns-then-clash
-returns-then-clash c = settling_all c.args.sums.now c.args.self.now (omega (arith, c.loop-i.auto.i-end, c.loop-i-test.false)) (λ e. subst T (sym c.if-clash.true) tt) c.loop-i.invariant
+returns-then-clash c = settling_all c.args.sums.now c.args.self.now (omega (arith, c.loop-i.auto.i-end, c.loop-i-test.false)) (λ e. subst T (sym c.if-clash.true) tt) (λ e. absurd (true≢false (sym e))) c.loop-i.invariant.1
 
 pub returns-else-clash : goal.returns-else-clash
-returns-else-clash c = settling_all c.args.sums.now c.args.self.now (omega (arith, c.loop-i.auto.i-end, c.loop-i-test.false)) (λ e. absurd (true≢false (sym e))) c.loop-i.invariant
+returns-else-clash c = settling_all c.args.sums.now c.args.self.now (omega (arith, c.loop-i.auto.i-end, c.loop-i-test.false)) (λ e. absurd (true≢false (sym e))) (λ e t. subst T c.if-clash.false t) c.loop-i.invariant.1
