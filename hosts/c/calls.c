@@ -3,6 +3,7 @@
  * once, and the one that it tells is mended before it is called again. The status is 1 at a
  * difference. */
 #include <grader.h>
+#include <stdbool.h>
 #include <stdio.h>
 #include <string.h>
 
@@ -86,6 +87,11 @@ static grader_answer check_grid(void)
     return grader_check_grid(lent.grid, lent.grid_length);
 }
 
+static grader_answer is_completion(void)
+{
+    return grader_is_completion(lent.grid, lent.grid_length, (const uint8_t *)full, GRADER_GRID);
+}
+
 static grader_answer clause(void)
 {
     return grader_clause(lent.set, lent.number, lent.literals, lent.literals_length);
@@ -97,7 +103,15 @@ static grader_answer job(void)
                       lent.marks, lent.marks_length);
 }
 
-static grader_answer search(void)
+/* The first buffer has the faulty length. */
+static grader_answer search_first(void)
+{
+    return grader_search(lent.grid, lent.grid_length, lent.first, lent.buffer_length, lent.second,
+                         GRADER_GRID);
+}
+
+/* The second buffer has it. */
+static grader_answer search_second(void)
 {
     return grader_search(lent.grid, lent.grid_length, lent.first, GRADER_GRID, lent.second,
                          lent.buffer_length);
@@ -172,8 +186,10 @@ static bool marked(const uint8_t *marks)
 int main(void)
 {
     RUN(check_grid, 1, 0, 0, {11, 0}, {12, 17});
-    EXPECT(grader_is_completion(lent.grid, GRADER_GRID, (const uint8_t *)full, GRADER_GRID));
-    EXPECT(!grader_is_completion((const uint8_t *)full, GRADER_GRID, lent.grid, GRADER_GRID));
+
+    RUN(is_completion, 1, 1, 0, {11, 0}, {12, 17});
+    EXPECT(grader_is_completion(lent.grid, GRADER_GRID, lent.grid, GRADER_GRID) == 0);
+    EXPECT(grader_is_completion(lent.grid, GRADER_GRID, (const uint8_t *)full, 80) == 0);
 
     RUN(clause, 1, 9, 0, {43, 0}, {44, 0}, {45, 0});
     EXPECT(lent.literals[0] == 549 && lent.literals[8] == 729);
@@ -181,8 +197,10 @@ int main(void)
     RUN(job, 1, GRADER_SOLVED, 0, {41, 0}, {11, 0}, {12, 17}, {21, 0}, {22, 0}, {23, 900}, {24, 5});
     EXPECT(marked(lent.marks));
 
-    RUN(search, 1, 1, 0, {42, 0}, {11, 0}, {12, 17});
-    EXPECT(memcmp(lent.first, full, GRADER_GRID) == 0 && lent.second[0] == 0);
+    RUN(search_first, 1, 1, 0, {42, 0}, {11, 0}, {12, 17});
+    RUN(search_second, 1, 1, 0, {42, 0}, {11, 0}, {12, 17});
+    EXPECT(memcmp(lent.first, full, GRADER_GRID) == 0);
+    EXPECT(memcmp(lent.second, (const uint8_t[GRADER_GRID]){0}, GRADER_GRID) == 0);
 
     RUN(grade, 1, GRADER_UNIT_MINIMAL, 0, {42, 0}, {11, 0}, {12, 17}, {22, 0}, {23, 900}, {24, 5});
     EXPECT(memcmp(lent.first, full, GRADER_GRID) == 0);
@@ -197,10 +215,14 @@ int main(void)
     EXPECT(memcmp(lent.first, lent.grid, GRADER_GRID) == 0);
     EXPECT(memcmp(lent.order_buffer, lent.order, sizeof lent.order) == 0);
 
-    uint8_t header[GRADER_HEADER], line[GRADER_LINE];
-    grader_header(header);
-    EXPECT(memcmp(header, "line verdict trials\n", GRADER_HEADER) == 0);
+    /* The line is written over the header, of which the rest stays. */
+    uint8_t line[GRADER_LINE], past[GRADER_LINE - 20];
+    memset(line, 77, sizeof line);
+    memset(past, 77, sizeof past);
+    EXPECT(grader_header(line) == 20);
+    EXPECT(memcmp(line, "line verdict trials\n", 20) == 0);
     EXPECT(grader_list_line(12, (const uint8_t *)full, GRADER_GRID, line) == 7);
-    EXPECT(memcmp(line, "12 1 0\n", 7) == 0);
+    EXPECT(memcmp(line, "12 1 0\nrdict trials\n", 20) == 0);
+    EXPECT(memcmp(line + 20, past, sizeof past) == 0);
     return status;
 }

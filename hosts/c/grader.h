@@ -15,7 +15,6 @@
 #ifndef GRADER_H
 #define GRADER_H
 
-#include <stdbool.h>
 #include <stddef.h>
 #include <stdint.h>
 
@@ -30,8 +29,7 @@ enum {
     GRADER_ORDER = 1458, /* literals of an order */
     GRADER_LITERALS = 9, /* literals lent for a clause */
     GRADER_BATCH = 64,   /* grids of a batch, at most */
-    GRADER_HEADER = 20,  /* bytes of a listing's header */
-    GRADER_LINE = 64     /* bytes lent for an output line */
+    GRADER_LINE = 64     /* bytes lent for a line of a listing */
 };
 
 /* The ceiling where none is named. No job counts more trials. */
@@ -127,10 +125,12 @@ static inline void grader_default_order(int16_t order[GRADER_ORDER])
  * Refusals: 11, 12. No result. */
 grader_answer grader_check_grid(const uint8_t *grid, size_t grid_length);
 
-/* True exactly where the grid is well formed and the candidate is a legal completion of it: 81
- * digits that keep all givens and have each digit once in each row, column and box. */
-bool grader_is_completion(const uint8_t *grid, size_t grid_length,
-                          const uint8_t *candidate, size_t candidate_length);
+/* Tests whether a candidate is a legal completion of a grid: 81 digits that keep all givens and
+ * have each digit once in each row, column and box.
+ * Refusals: 11, 12, both of the grid.
+ * Result: 1 where it is one, 0 where it is not. */
+grader_answer grader_is_completion(const uint8_t *grid, size_t grid_length,
+                                   const uint8_t *candidate, size_t candidate_length);
 
 /* A clause of set 1 (minimal, numbers 0 to 8,828) or 2 (extended, 0 to 11,987).
  * Refusals: 43, 44, 45.
@@ -183,8 +183,9 @@ grader_answer grader_batch(const uint8_t *grids, size_t grids_length, uint32_t t
 grader_answer grader_read_job_file(const uint8_t *file, size_t file_length, uint8_t *grid,
                                    size_t grid_length, int16_t *order, size_t order_length);
 
-/* Writes a listing's header: `line verdict trials` and a newline, with no zero byte after them. */
-void grader_header(uint8_t out[GRADER_HEADER]);
+/* Writes a listing's header, `line verdict trials` and a newline, at the start of the lent bytes.
+ * Returns the length, 20; bytes past it stay as they were. */
+size_t grader_header(uint8_t out[GRADER_LINE]);
 
 /* Grades a line of input under the default order and ceiling, and writes its output line at the
  * start of the lent bytes: the number, the verdict and the trials, or the number, `R` and the

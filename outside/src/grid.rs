@@ -57,11 +57,12 @@ pub fn givens(grid: &[u8]) -> Vec<i16> {
         .collect()
 }
 
-/// Whether the candidate is a legal completion of the grid: it keeps all givens and has each
-/// digit once in each house. False for anything that is not well formed.
-pub fn is_completion(grid: &[u8], candidate: &[u8]) -> bool {
-    if check(grid).is_err() || candidate.len() != CELLS {
-        return false;
+/// The completion test: whether the candidate has 81 bytes, keeps all givens of the grid and has
+/// each digit once in each house. Refusals 11, 12.
+pub fn is_completion(grid: &[u8], candidate: &[u8]) -> Result<bool, Refusal> {
+    check(grid)?;
+    if candidate.len() != CELLS {
+        return Ok(false);
     }
     let keeps_givens =
         (0..CELLS).all(|cell| !is_given(grid[cell]) || candidate[cell] == grid[cell]);
@@ -72,8 +73,8 @@ pub fn is_completion(grid: &[u8], candidate: &[u8]) -> bool {
             .count()
             == 1
     };
-    keeps_givens
+    Ok(keeps_givens
         && HOUSES
             .iter()
-            .all(|house| (b'1'..=b'9').all(|digit| has_once(house, digit)))
+            .all(|house| (b'1'..=b'9').all(|digit| has_once(house, digit))))
 }

@@ -66,7 +66,11 @@ const ABOVE: u16 = 11_664;
 /// The group of a clause's number.
 #[inline(always)]
 fn group_of(clause: u16) -> usize {
-    usize::from(if clause < ABOVE { clause } else { clause - ABOVE })
+    usize::from(if clause < ABOVE {
+        clause
+    } else {
+        clause - ABOVE
+    })
 }
 
 /// The index of a pair of nine places among the 36, the lower first.

@@ -4,7 +4,7 @@
 use crate::refusal::Refusal;
 
 pub use grader::raw::{clause as packed_clause, header, list_line};
-pub use grader::{is_completion, LINE};
+pub use grader::LINE;
 
 fn refused(refusal: grader::Refusal) -> Refusal {
     Refusal::at(refusal.cause.number(), refusal.place)
@@ -12,6 +12,10 @@ fn refused(refusal: grader::Refusal) -> Refusal {
 
 pub fn check_grid(grid: &[u8]) -> Result<(), Refusal> {
     grader::check_grid(grid).map_err(refused)
+}
+
+pub fn is_completion(grid: &[u8], candidate: &[u8]) -> Result<bool, Refusal> {
+    grader::is_completion(grid, candidate).map_err(refused)
 }
 
 pub fn clause(set: u32, number: u32, literals: &mut [i16]) -> Result<u8, Refusal> {

@@ -1,6 +1,6 @@
 //! The job call by a simple loop: the bench times the proved call beside it too, so that it shows what
 //! the sums, the list and the known successes of [`crate::plain_job`] gain. A place is a variable less
-//! 1. Decided places go on a trail, on which they wait to be looked at, with all places of their
+//! one. Decided places go on a trail, on which they wait to be looked at, with all places of their
 //! groups; the four groups of a place are found by arithmetic. Every trial is made.
 
 use crate::grid;

@@ -98,7 +98,7 @@ fn ai_escargot_has_verdict_5() {
             trials: 1_220 + 852
         }
     );
-    assert!(is_completion(AI_ESCARGOT, &completion));
+    assert_eq!(is_completion(AI_ESCARGOT, &completion), Ok(true));
     // 42% and 29% of the variables stay undecided.
     for (technique, trials, undecided) in [(3, 1_220, 304), (4, 852, 212)] {
         let (outcome, count, marks) = run(AI_ESCARGOT, technique, u32::MAX);
@@ -112,7 +112,7 @@ fn figure_five_has_verdict_5_throughout() {
     for grid in FIGURE_FIVE {
         let (grade, completion) = graded(grid);
         assert_eq!(grade.verdict, 5);
-        assert!(is_completion(grid, &completion));
+        assert_eq!(is_completion(grid, &completion), Ok(true));
     }
 }
 

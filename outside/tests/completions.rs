@@ -2,14 +2,15 @@
 //! every open cell.
 
 use reference::cases::{named, Grid, Random, G};
-use reference::grid::{is_completion, HOUSES};
+use reference::grid::{is_completion, is_given, HOUSES};
+use reference::refusal::Refusal;
 use reference::search::{search, Completions};
 use std::collections::BTreeSet;
 
 /// All completions in byte order, for a grid with few.
 fn all_completions(grid: Grid) -> Vec<Grid> {
     let Some(cell) = grid.iter().position(|&byte| byte == b'0' || byte == b'.') else {
-        return if is_completion(&grid, &grid) {
+        return if is_completion(&grid, &grid) == Ok(true) {
             vec![grid]
         } else {
             vec![]
@@ -65,7 +66,9 @@ fn search_of_named_grids() {
         .collect();
     assert_eq!(sizes, [1, 1, 1, 2, 2, 0, 2, 0, 1, 1, 1, 1, 1, 1, 1, 1, 1]);
     let (_, first, second) = searched(&[b'.'; 81]);
-    assert!(is_completion(&[b'.'; 81], &first) && is_completion(&[b'.'; 81], &second));
+    for found in [first, second] {
+        assert_eq!(is_completion(&[b'.'; 81], &found), Ok(true));
+    }
     assert!(first.starts_with(b"123456789456789123") && first < second);
 }
 
@@ -74,22 +77,30 @@ fn completion_test() {
     let mut grid = *G;
     grid[40] = b'.';
     grid[41] = b'0';
-    assert!(is_completion(G, G) && is_completion(&grid, G));
+    assert_eq!(is_completion(G, G), Ok(true));
+    assert_eq!(is_completion(&grid, G), Ok(true));
     for place in 0..81 {
         for byte in 0..=255 {
-            let mut candidate = *G;
-            candidate[place] = byte;
-            assert_eq!(is_completion(&[b'.'; 81], &candidate), byte == G[place]);
             let mut other = *G;
             other[place] = byte;
-            let fits = byte == G[place] || byte == b'0' || byte == b'.';
-            assert_eq!(is_completion(&other, G), fits);
+            let same = byte == G[place];
+            assert_eq!(is_completion(&[b'.'; 81], &other), Ok(same));
+            let expected = match byte {
+                b'0' | b'.' => Ok(true),
+                given if is_given(given) => Ok(same),
+                _ => Err(Refusal::at(12, place)),
+            };
+            assert_eq!(is_completion(&other, G), expected);
+            assert_eq!(is_completion(&other, b""), expected.map(|_| false));
         }
     }
     let long = [&G[..], &G[..]].concat();
-    assert!(!is_completion(&G[..80], G) && !is_completion(G, &G[..80]));
-    assert!(!is_completion(&long[..82], G) && !is_completion(G, &long[..82]));
-    assert!(!is_completion(&[], &[]) && !is_completion(&long, &long));
+    for wrong in [&long[..0], &long[..80], &long[..82], &long, &[b'x'; 80]] {
+        assert_eq!(is_completion(G, wrong), Ok(false));
+        for candidate in [G, wrong] {
+            assert_eq!(is_completion(wrong, candidate), Err(Refusal::new(11)));
+        }
+    }
 }
 
 /// Each house has nine cells, and each cell lies in one row, one column and one box.

@@ -11,7 +11,8 @@ use lib.ListN.{length, take, drop, length-append, length-drop, drop_of_length-le
 use lib.Seq.{take-append_seam, drop-append_seam, drop-drop}
 use Rattle.closure.specs.Job.{End, count_of, marks_of}
 use Rattle.orders.specs.declared.technique.Technique.{Technique}
-use Rattle.batch.specs.Call.{grid_at, job_end_of, numbers_of, Done, more, done_after}
+use Rattle.inference.specs.Call.{job_end_of}
+use Rattle.batch.specs.Call.{grid_at, numbers_of, Done, more, done_after}
 use Rattle.batch.specs.Parts.{Filled, AllFilled}
 
 -- the k entries after the first a are replaced by ys

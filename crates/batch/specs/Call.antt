@@ -3,12 +3,12 @@ use Rattle.std.specs.Prelude.{Bool, cond, ◌&&◌, List, [], ◌∷◌, ◌++�
 use Rattle.grid.specs.Refusals.{on_accepted, bytes_check}
 use Rattle.grid.specs.declared.Refusal.{Refusal}
 use Rattle.grid.specs.declared.Refusal.TheVariants.{MarksLength, BatchLength, AnswersLength}
-use Rattle.clauses.specs.Clauses.{clauses_of}
-use Rattle.clauses.specs.Models.{givens}
-use Rattle.closure.specs.Job.{End, job_end, count_of, marks_of, outcome_of}
+use Rattle.closure.specs.Job.{End, count_of, marks_of}
 use Rattle.orders.specs.Order.{order_check}
 use Rattle.orders.specs.Technique.{technique_of}
 use Rattle.orders.specs.declared.technique.Technique.{Technique}
+use Rattle.trials.specs.Steps.{outcome_number}
+use Rattle.inference.specs.Call.{ending, job_end_of}
 
 -- 81 to 5,184 bytes in steps of 81: 1 to 64 grids end to end
 unfoldable pub is_batch : ℕ → Bool
@@ -31,13 +31,9 @@ lent_check bytes marks numbers =
 abbrev pub grid_at : List ℕ → ℕ → List ℕ
 grid_at g i = take 81 (drop (81 * i) g)
 
--- the end of the job of a grid under a ceiling
-abbrev pub job_end_of : Technique → List ℤ → List ℕ → ℕ → End
-job_end_of t o g c = job_end (clauses_of t.set) c t.trials o (givens g)
-
 -- what the answer list says of a job: the number of its outcome, and its count
 abbrev pub numbers_of : End → List ℕ
-numbers_of e = outcome_of e ∷ count_of e ∷ []
+numbers_of e = outcome_number (ending e) ∷ count_of e ∷ []
 
 -- what some jobs of a batch have come to: their marks, end to end, the numbers of the answer list, and the sum of their counts
 pub record Done : Type 0 where

@@ -5,7 +5,8 @@
 #![tactic(auto)]
 
 ghost use Rattle.std.specs.Prelude.{◌≡◌, ◌+◌, ◌*◌, ◌-◌, ◌≤◌, length};
-ghost use Rattle.batch.specs.Call.{is_batch, lent_check, job_end_of, jobs_of, batch_call};
+ghost use Rattle.inference.specs.Call.{job_end_of};
+ghost use Rattle.batch.specs.Call.{is_batch, lent_check, jobs_of, batch_call};
 ghost use Rattle.batch.specs.Parts.{Lent, Filled, AllFilled};
 
 use grid::{Refusal, check_bytes};
@@ -59,7 +60,7 @@ fn run_one(
     made + end.count
 }
 
-// The jobs of a batch that is not refused. They are counted, as each receives its parts of what is lent as ranges.
+// The jobs of a batch that is not refused.
 fn run_each(
     technique: Technique,
     grids: &[u8],

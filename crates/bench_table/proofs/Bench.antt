@@ -5,11 +5,12 @@ use mathlib.Core.Path.{◌≡◌, refl, subst, sym}
 use mathlib.Core.Logic.{⊎_elim}
 use mathlib.Core.Bool.{Bool, true, false, not, cond}
 use mathlib.Core.List.Memᴰ
-use mathlib.Core.List.{List, [], ◌∷◌, ◌++◌, map, Memᴰ}
+use mathlib.Core.List.{List, [], ◌++◌, map}
 use Prim.Native.Nat.{ℕ, zero, suc, ◌+◌, ◌-◌, ◌/◌, ◌%◌, ◌<◌}
 use native.Mathlib.Omega.{arith}
 use lib.Dec.{T, leb}
 use lib.IntN.{ℤ, pos, negsuc}
+use Rattle.std.specs.Prelude.{Ok}
 use Rattle.grid.specs.Counting.{total, all}
 use Rattle.grid.specs.Grid.{byte, is_digit}
 use Rattle.grid.specs.House.{cell_of}
@@ -22,13 +23,12 @@ use Rattle.clauses.specs.Clauses.{clauses_of}
 use Rattle.clauses.specs.Models.{holds, givens, truth_of}
 use Rattle.clauses.specs.declared.ClauseSet.{ClauseSet}
 use Rattle.clauses.specs.declared.ClauseSet.TheVariants.{Minimal}
-use Rattle.clauses.proofs.Members.{over_iff}
 use Rattle.clauses.proofs.ModelsAreCompletions.{models_are_completions}
 use Rattle.closure.specs.Marks.{blank}
 use Rattle.closure.specs.Job.{End, opened, stopped, job_end, outcome_of, count_of, marks_of}
 use Rattle.closure.proofs.ClauseSets.{well_formed}
-use Rattle.orders.specs.Order.{default_order}
-use Rattle.orders.proofs.Orders.{default_long}
+use Rattle.orders.specs.Order.{order_check}
+use Rattle.orders.proofs.Orders.{accepted_order, accepted_literal}
 use Rattle.bench_table.specs.Bench.{Row, end_of, Expected, Holds, Every, dots, blank_row, blank_rows, full_rows, table}
 use Rattle.bench_table.proofs.Computed.{none, ◌also◌, corner_rows_lem, ones_rows_lem, fives_rows_lem, no_nine_rows_lem}
 use Rattle.bench_table.proofs.FullGrid.{full_solved}
@@ -70,11 +70,6 @@ module _ (s : ClauseSet) where
       turned_possible (suc (turn_of k)) (omega arith) (negsuc k)
       ((all_iff 729 (λ k. not (truth_of (turned (suc (turn_of k))) (suc k)))).0 turned_false k v)
 
-order_literal : (l : ℤ) → Memᴰ l default_order → Literal l
-order_literal l i =
-    let w = (over_iff 0 729 (λ k. pos (suc k) ∷ negsuc k ∷ []) l).0 i in
-    ⊎_elim (λ e. subst Literal (sym e) w.2) (λ m. subst Literal (sym (Memᴰ.eq_of_singleton m)) w.2) (Memᴰ.cases_cons w.3)
-
 dots_givens : givens dots ≡ []
 unfolding givens is_digit
 dots_givens = refl
@@ -83,14 +78,15 @@ dots_givens = refl
 abbrev blank_end : ℕ → End
 blank_end ceiling = cond (leb 1458 ceiling) (opened blank 1458) (stopped blank ceiling)
 
-blank_job : (ceiling : ℕ) → job_end (clauses_of Minimal) ceiling true default_order (givens dots) ≡ blank_end ceiling
-blank_job ceiling =
-    rw (dots_givens, quiet_job (clauses_of Minimal) (well_formed Minimal) (possible Minimal) ceiling default_order order_literal, default_long) refl
+blank_job : (ceiling : ℕ) (order : List ℤ) → order_check order ≡ Ok tt → job_end (clauses_of Minimal) ceiling true order (givens dots) ≡ blank_end ceiling
+blank_job ceiling order h =
+    rw (dots_givens, quiet_job (clauses_of Minimal) (well_formed Minimal) (possible Minimal) ceiling order (accepted_literal order h), (accepted_order order h).0)
+    refl
 
 blank_holds : (ceiling outcome count : ℕ) → outcome_of (blank_end ceiling) ≡ outcome → count_of (blank_end ceiling) ≡ count → Holds (blank_row ceiling outcome count)
 unfolding end_of
-blank_holds ceiling outcome count o n =
-    subst (Expected (blank_row ceiling outcome count)) (sym (blank_job ceiling)) (record { outcome = o; count = n; marks = zero_marks (leb 1458 ceiling) })
+blank_holds ceiling outcome count o n order h =
+    subst (Expected (blank_row ceiling outcome count)) (sym (blank_job ceiling order h)) (record { outcome = o; count = n; marks = zero_marks (leb 1458 ceiling) })
   where
     zero_marks : (b : Bool) → marks_of (cond b (opened blank 1458) (stopped blank ceiling)) ≡ blank
     zero_marks true = refl
@@ -103,11 +99,11 @@ G_legal : T (is_legal G G)
 unfolding all is_legal is_digit times total cell_of G
 G_legal = tt
 
-full_rows_lem : Every full_rows
+full_rows_lem : (ceiling : ℕ) → Every (full_rows ceiling)
 unfolding end_of
-full_rows_lem =
-    let w = full_solved Minimal G ((legal_iff G G).0 G_legal) 0 false default_order in
-    record { outcome = rw w.1 refl; count = rw w.1 refl; marks = tt } also none
+full_rows_lem ceiling =
+    let w = full_solved Minimal G ((legal_iff G G).0 G_legal) ceiling false in
+    (λ order h. record { outcome = rw (w order).1 refl; count = rw (w order).1 refl; marks = tt }) also none
 
 -- the rows of two lists
 ◌then◌ : {rs qs : List Row} → Every rs → Every qs → Every (rs ++ qs)
@@ -115,5 +111,5 @@ full_rows_lem =
 
 infixr 4 ◌then◌
 -- every row of the table holds
-pub bench : Every table
-bench = blank_rows_lem then corner_rows_lem then ones_rows_lem then fives_rows_lem then no_nine_rows_lem then full_rows_lem
+pub bench : (ceiling : ℕ) → Every (table ceiling)
+bench c = blank_rows_lem then corner_rows_lem c then ones_rows_lem c then fives_rows_lem c then no_nine_rows_lem c then full_rows_lem c

@@ -1,5 +1,6 @@
--- The jobs of the bench table, as one list of rows: a job, and what is expected of its end.
-use Rattle.std.specs.Prelude.{◌≡◌, Bool, true, false, ℕ, ◌+◌, ◌*◌, ◌-◌, get_or, replicate, set}
+-- The jobs of the bench table, as one list of rows: a job, and what is expected of its end. That is so along every order, and under every
+-- ceiling where no trials are made.
+use Rattle.std.specs.Prelude.{◌≡◌, Bool, true, false, ℕ, ◌+◌, ◌*◌, ◌-◌, ℤ, get_or, replicate, set, Ok}
 use mathlib.Core.List.{List, [], ◌∷◌, ◌++◌, Memᴰ}
 use Rattle.grid.specs.Examples.{G}
 use Rattle.clauses.specs.Clauses.{clauses_of}
@@ -8,7 +9,7 @@ use Rattle.clauses.specs.declared.ClauseSet.{ClauseSet}
 use Rattle.clauses.specs.declared.ClauseSet.TheVariants.{Minimal, Extended}
 use Rattle.closure.specs.Marks.{decided, blank}
 use Rattle.closure.specs.Job.{End, job_end, outcome_of, count_of, marks_of}
-use Rattle.orders.specs.Order.{default_order}
+use Rattle.orders.specs.Order.{order_check}
 
 -- what is said of the marks: nothing; how many variables they decide; the byte at a place, counted from 0; or that all are 0
 pub data Marked : Type 0 where
@@ -34,9 +35,9 @@ pub record Row : Type 0 where
   pub count : ℕ
   pub marks : Marked
 
--- the end of a row's job, along the default order
-unfoldable pub end_of : Row → End
-end_of r = job_end (clauses_of r.set) r.ceiling r.trials default_order (givens r.grid)
+-- the end of a row's job, along an order of trials
+unfoldable pub end_of : Row → List ℤ → End
+end_of r order = job_end (clauses_of r.set) r.ceiling r.trials order (givens r.grid)
 
 -- an end is as the row expects
 pub record Expected (r : Row) (e : End) : Type 0 where
@@ -44,9 +45,9 @@ pub record Expected (r : Row) (e : End) : Type 0 where
   pub count : count_of e ≡ r.count
   pub marks : MarksAre r.marks (marks_of e)
 
--- the row holds
+-- the row holds: its job ends as expected along every order that the operator's check accepts
 abbrev pub Holds : Row → Type 0
-Holds r = Expected r (end_of r)
+Holds r = (order : List ℤ) → order_check order ≡ Ok tt → Expected r (end_of r order)
 
 -- every row of the list holds
 abbrev pub Every : List Row → Type 0
@@ -88,44 +89,46 @@ blank_row ceiling outcome count = record {
   marks = zeros;
 }
 
--- a grid under technique 1 or 2: the set, the grid, the outcome, the marks. They count 0, whatever the ceiling.
-abbrev pub unit_row : ClauseSet → List ℕ → ℕ → Marked → Row
-unit_row set grid outcome marks = record {
-  grid = grid;
-  set = set;
-  trials = false;
-  ceiling = 0;
-  outcome = outcome;
-  count = 0;
-  marks = marks;
-}
-
 -- The rows, a list for each line of the table, with outcomes 1 solved, 2 open, 3 stopped, 4 contradiction.
 
 -- stopped at each ceiling below 1,458, the trials of one pass in which none fails
 abbrev pub blank_rows : List Row
 blank_rows = blank_row 0 3 0 ∷ blank_row 1 3 1 ∷ blank_row 1457 3 1457 ∷ blank_row 1458 2 1458 ∷ []
 
--- set 2 strikes the other eight digits of the cell too
-abbrev pub corner_rows : List Row
-corner_rows = unit_row Minimal corner 2 (deciding 21) ∷ unit_row Extended corner 2 (deciding 29) ∷ []
+-- the other rows make no trials, and their ceiling may be any
+module _ (ceiling : ℕ) where
+  -- a grid under technique 1 or 2: the set, the grid, the outcome, the marks. They count 0.
+  abbrev pub unit_row : ClauseSet → List ℕ → ℕ → Marked → Row
+  unit_row set grid outcome marks = record {
+    grid = grid;
+    set = set;
+    trials = false;
+    ceiling = ceiling;
+    outcome = outcome;
+    count = 0;
+    marks = marks;
+  }
 
--- only set 2 has the clause that finds the one cell left in box (0,0), which marks +1, at place 0
-abbrev pub ones_rows : List Row
-ones_rows = unit_row Extended ones 2 (having 0 1) ∷ unit_row Minimal ones 2 (having 0 0) ∷ []
+  -- set 2 strikes the other eight digits of the cell too
+  abbrev pub corner_rows : List Row
+  corner_rows = unit_row Minimal corner 2 (deciding 21) ∷ unit_row Extended corner 2 (deciding 29) ∷ []
 
--- two givens of one row are the same
-abbrev pub fives_rows : List Row
-fives_rows = unit_row Minimal fives 4 zeros ∷ unit_row Extended fives 4 zeros ∷ []
+  -- only set 2 has the clause that finds the one cell left in box (0,0), which marks +1, at place 0
+  abbrev pub ones_rows : List Row
+  ones_rows = unit_row Extended ones 2 (having 0 1) ∷ unit_row Minimal ones 2 (having 0 0) ∷ []
 
--- no digit is left for (1,9)
-abbrev pub no_nine_rows : List Row
-no_nine_rows = unit_row Minimal no_nine 4 zeros ∷ []
+  -- two givens of one row are the same
+  abbrev pub fives_rows : List Row
+  fives_rows = unit_row Minimal fives 4 zeros ∷ unit_row Extended fives 4 zeros ∷ []
 
--- nothing is open
-abbrev pub full_rows : List Row
-full_rows = unit_row Minimal G 1 unsaid ∷ []
+  -- no digit is left for (1,9)
+  abbrev pub no_nine_rows : List Row
+  no_nine_rows = unit_row Minimal no_nine 4 zeros ∷ []
 
--- all of them
-abbrev pub table : List Row
-table = blank_rows ++ (corner_rows ++ (ones_rows ++ (fives_rows ++ (no_nine_rows ++ full_rows))))
+  -- nothing is open
+  abbrev pub full_rows : List Row
+  full_rows = unit_row Minimal G 1 unsaid ∷ []
+
+  -- all of them
+  abbrev pub table : List Row
+  table = blank_rows ++ (corner_rows ++ (ones_rows ++ (fives_rows ++ (no_nine_rows ++ full_rows))))

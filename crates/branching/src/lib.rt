@@ -81,8 +81,8 @@ fn counted(failures: u32) -> u32 {
     }
 }
 
-// What a test of states works with: the list that is lent to the closures, and how often the test has failed at each place. Each step asks for a closed
-// state, as a contradiction leaves one half closed.
+// What a test of states works with: the list that is lent to the closures, and four times how often the test has failed at each place. Each step asks
+// for a closed state, as a contradiction leaves one half closed.
 #[derive(Drop)]
 pub struct Test {
     pub list: Worklist,
@@ -169,7 +169,7 @@ impl Test {
         }
     }
 
-    // A trial of each place with at least so many failures. It ends at a place that can be neither true nor false.
+    // A trial of each place at which the test has failed at least so much. It ends at a place that can be neither true nor false.
     fn weigh_from(
         &mut self,
         state: &mut State,

@@ -51,7 +51,7 @@ impl TryFrom<u32> for ClauseSet {
 }
 
 // How many clauses a set has.
-pub fn clause_count(set: ClauseSet) -> usize
+fn clause_count(set: ClauseSet) -> usize
     ensures { result ≡ length (clauses_of set) }
 {
     match set {
@@ -61,7 +61,7 @@ pub fn clause_count(set: ClauseSet) -> usize
 }
 
 // The clause of a number of a set.
-fn clause_of(set: ClauseSet, n: usize, out: &mut [i16]) -> Result<usize, Refusal>
+fn clause_given(set: ClauseSet, n: usize, out: &mut [i16]) -> Result<usize, Refusal>
     ensures { (result, out.new) ≡ clause_given (clauses_of set) n out.old }
 {
     if clause_count(set) <= n {
@@ -81,5 +81,5 @@ pub fn clause(set: u32, number: u32, literals: &mut [i16]) -> Result<usize, Refu
     ensures { (result, literals.new) ≡ clause_call set number literals.old }
 {
     let named = ClauseSet::try_from(set)?;
-    clause_of(named, number as usize, literals)
+    clause_given(named, number as usize, literals)
 }

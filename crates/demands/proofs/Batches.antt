@@ -92,7 +92,7 @@ module _ (g : List ℕ) (n : ℕ) (o : List ℤ) (c : ℕ) (m a : List ℕ) wher
             technique = call.known;
             order = refl;
             ceiling = ap (λ x. c - x) ((sum_is t o g c i).0 ∙ sym (before_is i (omega arith)));
-            outcome = sym d.outcome ∙ sym (outcome_at_lem t o g c k i h) ∙ ap (λ l. outcome_at l i) answers_are;
+            outcome = sym (outcome_at_lem t o g c k i h) ∙ ap (λ l. outcome_at l i) answers_are;
             count = sym d.count ∙ sym (count_is i h);
             marks = sym d.marks ∙ sym (marks_at_lem t o g c k i (λ j b. (ran_ended (job j b)).ok.marks.long) h) ∙ ap (λ l. marks_at l i) marks_are;
           },

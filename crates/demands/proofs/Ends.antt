@@ -1,33 +1,33 @@
 -- What a job gave back is what its end says, and its end is as it should be: an accepted order has every literal, and the givens are literals.
 -- Assumes nothing.
-use mathlib.Core.Path.{◌≡◌, refl, sym, subst, ap, ◌∙◌}
+use mathlib.Core.Path.{◌≡◌, refl, sym, ap, ◌∙◌}
 use mathlib.Core.Logic.{◌↔◌}
 use mathlib.Core.Bool.{cond}
 use mathlib.Core.List.{List, Memᴰ}
 use Prim.Native.Nat.{ℕ, suc, ◌+◌, ◌*◌, ◌≤◌}
 use native.Mathlib.Omega.{arith}
 use lib.Dec.{eqb}
-use lib.IntN.{ℤ, pos}
+use lib.IntN.{ℤ}
 use Rattle.std.specs.Prelude.{Ok}
 use Rattle.grid.specs.Refusals.{grid_check}
 use Rattle.clauses.specs.Literal.{Literal}
 use Rattle.clauses.specs.Clauses.{clauses_of}
 use Rattle.clauses.specs.Models.{givens}
-use Rattle.clauses.proofs.Members.{place_of, given_literal}
+use Rattle.clauses.proofs.Members.{given_literal}
 use Rattle.closure.specs.Sets.{Holds}
 use Rattle.closure.specs.Marks.{has, decided}
-use Rattle.closure.specs.Job.{End, solved, opened, stopped, contradiction, job_end, count_of, marks_of, outcome_of}
+use Rattle.closure.specs.Job.{End, solved, opened, stopped, contradiction, count_of, marks_of, outcome_of}
 use Rattle.closure.proofs.Clauses.{NoneTwice}
 use Rattle.closure.proofs.Job.{JobOk, job_ok}
 use Rattle.closure.proofs.Order.{order_covers}
 use Rattle.closure.proofs.ClauseSets.{well_formed}
 use Rattle.orders.specs.Order.{order_check}
 use Rattle.orders.specs.declared.technique.Technique.{Technique}
-use Rattle.orders.proofs.Orders.{accepted_order}
+use Rattle.orders.proofs.Orders.{accepted_order, accepted_literal}
 use Rattle.trials.specs.Steps.{end, outcome_number}
 use Rattle.trials.specs.declared.trial.Outcome.{Outcome}
 use Rattle.trials.specs.declared.trial.Outcome.TheVariants.{Solved, Open, Stopped, Contradiction}
-use Rattle.inference.specs.Call.{finished, job_of}
+use Rattle.inference.specs.Call.{ending, job_end_of, job_of}
 use Rattle.demands.specs.Jobs.{Ran, RulesOf, IsGiven}
 use Rattle.demands.proofs.Checks.{same_answer}
 
@@ -38,19 +38,16 @@ module _ (o : List ℤ) (e : order_check o ≡ Ok tt) where
 
   -- and just the literals
   accepted_covers : (l : ℤ) → Literal l ↔ Memᴰ l o
-  accepted_covers =
-      let a = accepted_order o e in
-      order_covers o a.0
-      (λ l m. let w = place_of (pos 0) o m in subst Literal w.2 (a.1 w.0 (omega (arith, a.0, w.1)))) accepted_once
+  accepted_covers = order_covers o (accepted_order o e).0 (accepted_literal o e) accepted_once
 
   -- a job ends as it should: where its givens leave at most u variables undecided, it makes at most u (u + 1) trials
   pub end_ok : (t : Technique) (g : List ℕ) (c u : ℕ) → u ≤ 729 → ((m : List ℕ) → Holds (IsGiven g) (has m) → 729 ≤ u + decided m)
-      → JobOk (RulesOf t) (IsGiven g) c (u * suc u) (job_end (clauses_of t.set) c t.trials o (givens g))
+      → JobOk (RulesOf t) (IsGiven g) c (u * suc u) (job_end_of t o g c)
   end_ok t g c = job_ok (clauses_of t.set) (well_formed t.set) c t.trials o accepted_covers accepted_once (givens g) (given_literal g)
 
 -- the end of a job
 abbrev pub end_of : Ran → End
-end_of r = job_end (clauses_of r.technique.set) r.ceiling r.technique.trials r.order (givens r.grid)
+end_of r = job_end_of r.technique r.order r.grid r.ceiling
 
 -- it is as it should be, and what the job gave back is read off it
 pub record Ended (r : Ran) : Type 0 where
@@ -59,13 +56,6 @@ pub record Ended (r : Ran) : Type 0 where
   pub count : count_of (end_of r) ≡ r.count
   pub marks : marks_of (end_of r) ≡ r.marks
 
--- the outcome of an end
-abbrev pub ending : End → Outcome
-ending (solved m n) = Solved
-ending (opened m n) = Open
-ending (stopped m n) = Stopped
-ending (contradiction n) = Contradiction
-
 ending_number : (e : End) → outcome_of e ≡ outcome_number (ending e)
 ending_number (solved m n) = refl
 ending_number (opened m n) = refl
@@ -73,21 +63,15 @@ ending_number (stopped m n) = refl
 ending_number (contradiction n) = refl
 
 -- a job gives back what its end says
-finished_is : (e : End) → finished e ≡ (Ok (end (ending e) (count_of e)), marks_of e)
-finished_is (solved m n) = refl
-finished_is (opened m n) = refl
-finished_is (stopped m n) = refl
-finished_is (contradiction n) = refl
-
 pub job_gives : (t : Technique) (g : List ℕ) (o : List ℤ) (c : ℕ)
-    → let e = job_end (clauses_of t.set) c t.trials o (givens g) in job_of t g o c ≡ (Ok (end (ending e) (count_of e)), marks_of e)
+    → let e = job_end_of t o g c in job_of t g o c ≡ (Ok (end (ending e) (count_of e)), marks_of e)
 unfolding job_of
-job_gives t g o c = finished_is (job_end (clauses_of t.set) c t.trials o (givens g))
+job_gives t g o c = refl
 
 -- the job of a technique whose inputs are accepted, as one that ran
 abbrev pub ran_of : (t : Technique) (g : List ℕ) (o : List ℤ) (c : ℕ) → grid_check g ≡ Ok tt → order_check o ≡ Ok tt → Ran
 ran_of t g o c a b =
-    let e = job_end (clauses_of t.set) c t.trials o (givens g) in
+    let e = job_end_of t o g c in
     record {
       grid = g;
       technique = t;

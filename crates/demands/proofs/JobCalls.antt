@@ -3,7 +3,6 @@
 use mathlib.Core.Path.{◌≡◌, refl, ap, sym, ◌∙◌}
 use mathlib.Core.List.{List}
 use Prim.Native.Nat.{ℕ}
-use borrow.Author.Tests.{eqb-true}
 use lib.Dec.{eqb}
 use lib.IntN.{ℤ}
 use lib.ListN.{length}
@@ -13,46 +12,32 @@ use Rattle.grid.specs.declared.Refusal.{Refusal}
 use Rattle.orders.specs.Order.{order_check}
 use Rattle.orders.specs.Technique.{technique_of}
 use Rattle.trials.specs.Steps.{end}
-use Rattle.trials.specs.declared.trial.Outcome.{Outcome}
 use Rattle.inference.specs.Call.{refused, job_call}
-use Rattle.demands.specs.Jobs.{Ran, IsJob}
+use Rattle.demands.specs.Jobs.{JobCalls}
 use Rattle.demands.proofs.Checks.{tested, checked, no_answer}
 use Rattle.demands.proofs.Ends.{job_gives}
 
-module _ (g : List ℕ) (n : ℕ) (o : List ℤ) (c : ℕ) (m : List ℕ) where
-  -- a call that ends with an outcome is a job that ran
-  pub call_ran : (a : Outcome) (k : ℕ) (t : List ℕ) → job_call g n o c m ≡ (Ok (end a k), t) → (r : Ran) × IsJob r g n o c a k t × (length m ≡ 729)
-  unfolding job_call
-  call_ran a k t =
-      tested (refused m) _ no (eqb (length m) 729) _ _ λ long.
-      checked (refused m) _ no (grid_check g) _ λ u grid.
-      checked (refused m) _ no (technique_of n) _ λ s known.
-      checked (refused m) _ no (order_check o) _ λ v order e. (
-        record {
-          grid = g;
-          technique = s;
-          order = o;
-          ceiling = c;
-          outcome = a;
-          count = k;
-          marks = t;
-          grid_accepted = grid;
-          order_accepted = order;
-          gave = e;
-        },
-        record { grid = refl; technique = known; order = refl; ceiling = refl; outcome = refl; count = refl; marks = refl },
-        eqb-true (length m) 729 long,
-      )
-    where
-      no : {P : Type 0} (f : Refusal) → refused m f ≡ (Ok (end a k), t) → P
-      no f e = absurd (no_answer (ap (λ p. p.0) e))
+-- a call that ends with an outcome is a job that ran
+pub call_ran : JobCalls
+unfolding job_call
+call_ran g n o c m a k t =
+    tested (refused m) _ no (eqb (length m) 729) _ _ λ long.
+    checked (refused m) _ no (grid_check g) _ λ u grid.
+    checked (refused m) _ no (technique_of n) _ λ s known.
+    checked (refused m) _ no (order_check o) _ λ v order e. (
+      record { grid = g; technique = s; order = o; ceiling = c; outcome = a; count = k; marks = t; grid_accepted = grid; order_accepted = order; gave = e },
+      record { grid = refl; technique = known; order = refl; ceiling = refl; outcome = refl; count = refl; marks = refl },
+    )
+  where
+    no : {P : Type 0} (f : Refusal) → refused m f ≡ (Ok (end a k), t) → P
+    no f e = absurd (no_answer (ap (λ p. p.0) e))
 
-  -- a call that refuses leaves the lent marks as they are
-  pub call_refused : (f : Refusal) (t : List ℕ) → job_call g n o c m ≡ (Err f, t) → t ≡ m
-  unfolding job_call
-  call_refused f t =
-      let stays : (h : Refusal) → refused m h ≡ (Err f, t) → t ≡ m = λ h e. ap (λ p. p.1) (sym e) in
-      tested (refused m) _ stays (eqb (length m) 729) _ _ λ long.
-      checked (refused m) _ stays (grid_check g) _ λ u grid.
-      checked (refused m) _ stays (technique_of n) _ λ s known.
-      checked (refused m) _ stays (order_check o) _ λ v order e. absurd (no_answer (ap (λ p. p.0) (sym e ∙ job_gives s g o c)))
+-- a call that refuses leaves the lent marks as they are
+pub call_refused : (g : List ℕ) (n : ℕ) (o : List ℤ) (c : ℕ) (m : List ℕ) (f : Refusal) (t : List ℕ) → job_call g n o c m ≡ (Err f, t) → t ≡ m
+unfolding job_call
+call_refused g n o c m f t =
+    let stays : (h : Refusal) → refused m h ≡ (Err f, t) → t ≡ m = λ h e. ap (λ p. p.1) (sym e) in
+    tested (refused m) _ stays (eqb (length m) 729) _ _ λ long.
+    checked (refused m) _ stays (grid_check g) _ λ u grid.
+    checked (refused m) _ stays (technique_of n) _ λ s known.
+    checked (refused m) _ stays (order_check o) _ λ v order e. absurd (no_answer (ap (λ p. p.0) (sym e ∙ job_gives s g o c)))

@@ -3,7 +3,7 @@ use Rattle.std.specs.Prelude.{◌≡◌, List, ℕ, ◌+◌, ◌*◌, ◌-◌, �
 use Rattle.grid.specs.Counting.{total}
 use Rattle.orders.specs.Technique.{technique_of}
 use Rattle.trials.specs.Steps.{outcome_number}
-use Rattle.batch.specs.Call.{grids_in, grid_at}
+use Rattle.batch.specs.Call.{grids_in, grid_at, batch_call}
 use Rattle.demands.specs.Jobs.{Ran}
 
 -- the marks of the i-th job, counted from 0
@@ -37,3 +37,10 @@ pub record IsPart (r : Ran) (g : List ℕ) (n : ℕ) (o : List ℤ) (c : ℕ) (m
 pub record IsBatch (g : List ℕ) (n : ℕ) (o : List ℤ) (c : ℕ) (m a : List ℕ) : Type 0 where
   pub jobs : (i : ℕ) → i < grids_in (length g) → (r : Ran) × IsPart r g n o c m a i
   pub within : count_before a (grids_in (length g)) ≤ c
+
+-- Every batch call that is not refused has a job for each of its grids.
+abbrev pub BatchCalls : Type 0
+BatchCalls =
+    (g : List ℕ) (n : ℕ) (o : List ℤ) (c : ℕ) (m a t u : List ℕ)
+    → batch_call g n o c m a ≡ (Ok tt, t, u)
+    → IsBatch g n o c t u

@@ -3,8 +3,9 @@ use Rattle.std.specs.Prelude.{◌≡◌, ◌⊎◌, List, ℕ, ◌≤◌, ◌<�
 use Rattle.grid.specs.Grid.{byte, is_digit}
 use Rattle.grid.specs.Completion.{Legal}
 use Rattle.orders.specs.Technique.{AtLeast}
-use Rattle.demands.specs.Jobs.{Ran, IsStopped, IsContradiction, mark_at}
-use Rattle.demands.specs.Gradings.{Grading, verdict_of}
+use Rattle.demands.specs.Jobs.{Ran, IsStopped, IsContradiction, mark_at, JobCalls}
+use Rattle.demands.specs.Batches.{BatchCalls}
+use Rattle.demands.specs.Gradings.{Grading, verdict_of, GradingCalls}
 
 -- the second grid has every given of the first: the same byte stands at its place
 abbrev pub HasGivens : List ℕ → List ℕ → Type 0
@@ -38,6 +39,7 @@ OfGradings =
     → (verdict_of second ≡ 6 → ⊥)
     → (second.completion ≡ first.completion) × (verdict_of second ≤ verdict_of first)
 
--- the demand
+-- The demand, and that it speaks of all that calls give back: of what every job call and every grading call gives back that is not refused, and of
+-- the job of each grid of a batch call.
 abbrev pub DemandThree : Type 0
-DemandThree = OfJobs × OfGradings
+DemandThree = (OfJobs × OfGradings) × JobCalls × BatchCalls × GradingCalls

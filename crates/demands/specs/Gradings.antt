@@ -2,7 +2,7 @@
 use Rattle.std.specs.Prelude.{◌≡◌, List, ℕ, ℤ, Ok}
 use Rattle.grid.specs.Refusals.{grid_check}
 use Rattle.orders.specs.Order.{order_check}
-use Rattle.grading.specs.Grade.{number_of, rating, grade_of}
+use Rattle.grading.specs.Grade.{number_of, rating, grade_of, grade_call}
 use Rattle.grading.specs.declared.Verdict.{Verdict}
 
 -- A grading that is not refused: what it was given, and what it gave back.
@@ -29,3 +29,10 @@ pub record IsGrading (r : Grading) (g : List ℕ) (o : List ℤ) (c : ℕ) (v : 
   pub verdict : r.verdict ≡ v
   pub trials : r.trials ≡ t
   pub completion : r.completion ≡ b
+
+-- Every grading call that is not refused is a grading.
+abbrev pub GradingCalls : Type 0
+GradingCalls =
+    (g : List ℕ) (o : List ℤ) (c : ℕ) (b : List ℕ) (v : Verdict) (t : ℕ) (a : List ℕ)
+    → grade_call g o c b ≡ (Ok (rating v t), a)
+    → (r : Grading) × IsGrading r g o c v t a

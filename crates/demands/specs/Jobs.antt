@@ -15,7 +15,7 @@ use Rattle.orders.specs.declared.technique.Technique.{Technique}
 use Rattle.trials.specs.Steps.{end}
 use Rattle.trials.specs.declared.trial.Outcome.{Outcome}
 use Rattle.trials.specs.declared.trial.Outcome.TheVariants.{Solved, Stopped, Contradiction}
-use Rattle.inference.specs.Call.{job_of}
+use Rattle.inference.specs.Call.{job_of, job_call}
 
 -- A job that is not refused: what it was given, and what it gave back. A job call makes one, and each job of a batch is one.
 pub record Ran : Type 0 where
@@ -39,6 +39,13 @@ pub record IsJob (r : Ran) (g : List ℕ) (n : ℕ) (o : List ℤ) (c : ℕ) (a 
   pub outcome : r.outcome ≡ a
   pub count : r.count ≡ k
   pub marks : r.marks ≡ m
+
+-- Every job call that is not refused is a job.
+abbrev pub JobCalls : Type 0
+JobCalls =
+    (g : List ℕ) (n : ℕ) (o : List ℤ) (c : ℕ) (m : List ℕ) (a : Outcome) (k : ℕ) (t : List ℕ)
+    → job_call g n o c m ≡ (Ok (end a k), t)
+    → (r : Ran) × IsJob r g n o c a k t
 
 -- at outcome 1
 abbrev pub IsSolved : Ran → Type 0

@@ -1,6 +1,7 @@
 pub mod Jobs
 pub mod Batches
 pub mod Searches
+pub mod SameGrid
 pub mod Gradings
 pub mod DemandThree
 pub mod NeverStopped

@@ -89,7 +89,9 @@ fn list(rt: &(impl Print + Eprint), input: &mut impl Read) -> Result<(), Failed>
     };
     let mut chunk = [0; 65536];
     // Where the header cannot be written, the first read is the last.
-    let begun = write(rt, &listing::header());
+    let mut text = [0; 64];
+    let n = listing::header(&mut text);
+    let begun = write(rt, &text[..n]);
     let mut read = Ok(());
     // No input is longer than the number of turns.
     for _ in 0..u64::MAX {

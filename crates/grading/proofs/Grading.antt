@@ -12,10 +12,11 @@ use Rattle.grid.specs.Completion.{Legal}
 use Rattle.clauses.specs.Clauses.{clauses_of}
 use Rattle.clauses.specs.Literal.{Literal}
 use Rattle.clauses.specs.Models.{givens, holds, truth_of}
-use Rattle.closure.specs.Job.{End, job_end, count_of}
+use Rattle.closure.specs.Job.{End, count_of}
 use Rattle.closure.proofs.Ceiling.{count_below}
 use Rattle.worklist.proofs.Literals.{index_place}
 use Rattle.trials.specs.Known.{Named, CompletionOk}
+use Rattle.inference.specs.Call.{job_end_of}
 use Rattle.completions.specs.Completions.{completions}
 use Rattle.completions.proofs.Completions.{completions_in_order}
 use Rattle.exploration.specs.Search.{zeros, found_of}
@@ -30,7 +31,7 @@ use Rattle.std.specs.Prelude.{Ok}
 module _ (g : List ℕ) (o : List ℤ) (ceiling : ℕ) where
   -- the job of a technique, t trials having been made before it
   abbrev pub job_at : Technique → ℕ → End
-  job_at s t = job_end (clauses_of s.set) (ceiling - t) s.trials o (givens g)
+  job_at s t = job_end_of s o g (ceiling - t)
 
   -- one technique
   pub rate_next : (ss rest : List Technique) (s : Technique) (t : ℕ) (e : End) → ss ≡ s ∷ rest → e ≡ job_at s t
@@ -86,7 +87,7 @@ module _ (g : List ℕ) (o : List ℤ) (ceiling : ℕ) where
 
 -- the literals that the marks of a legal completion name are its own
 pub marks_complete : (g b m : List ℕ) → Legal g b → MarksOf b m → CompletionOk g m
-marks_complete g b m h r = record { long = r.long; completes = λ l v n. (b, h, own l v n) }
+marks_complete g b m h r = record { long = r.long; each = λ l v n. (b, h, own l v n) }
   where
     odd : (t : Bool) → cond t 1 2 % 2 ≡ 1 → T t
     odd true e = tt

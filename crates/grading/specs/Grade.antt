@@ -3,13 +3,13 @@ use Rattle.std.specs.Prelude.{◌≡◌, cond, List, [], ◌∷◌, ℕ, suc, �
 use Rattle.grid.specs.Refusals.{on_accepted, grid_check}
 use Rattle.grid.specs.declared.Refusal.{Refusal}
 use Rattle.grid.specs.declared.Refusal.TheVariants.{BufferLength}
-use Rattle.clauses.specs.Clauses.{clauses_of}
-use Rattle.clauses.specs.Models.{givens, truth_of}
-use Rattle.closure.specs.Job.{End, solved, opened, stopped, contradiction, job_end}
+use Rattle.clauses.specs.Models.{truth_of}
+use Rattle.closure.specs.Job.{End, solved, opened, stopped, contradiction}
 use Rattle.orders.specs.Order.{order_check}
 use Rattle.orders.specs.Technique as technique
 use Rattle.orders.specs.Technique.{unit_minimal, unit_extended, trials_minimal, trials_extended}
 use Rattle.orders.specs.declared.technique.Technique.{Technique}
+use Rattle.inference.specs.Call.{job_end_of}
 use Rattle.completions.specs.Completions.{completions}
 use Rattle.exploration.specs.Search.{zeros}
 use Rattle.grading.specs.declared.Verdict.{Verdict}
@@ -43,7 +43,7 @@ module _ (g : List ℕ) (o : List ℤ) (ceiling : ℕ) where
   -- some techniques, one after the other, t trials having been made: each gets the ceiling less the trials before it
   unfoldable pub rate_from : List Technique → ℕ → Rating
   rate_from [] t = rating Unfinished t
-  rate_from (s ∷ ss) t = after_job (job_end (clauses_of s.set) (ceiling - t) s.trials o (givens g)) s t (rate_from ss)
+  rate_from (s ∷ ss) t = after_job (job_end_of s o g (ceiling - t)) s t (rate_from ss)
 
 -- a mark for each variable, 1 where it is true of the digits b and 2 where it is false
 pub record MarksOf (b m : List ℕ) : Type 0 where

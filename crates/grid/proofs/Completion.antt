@@ -12,16 +12,15 @@ use lib.Dec.{T, eqb, leb, eqb→eq, eqb_refl, leb→le, le→leb}
 use lib.ListN.{length, get_or-map}
 use Rattle.grid.specs.Counting.{all}
 use Rattle.grid.specs.Grid.{byte, is_digit, has_meaning, digit_of, digits_of}
-use Rattle.grid.specs.Completion.{times, Legal, is_full, keeps_givens, each_once, is_legal, is_grid}
+use Rattle.grid.specs.Completion.{times, Legal, is_full, keeps_givens, each_once, is_legal}
 use Rattle.std.specs.Prelude.{Option, Some, None, Result, Ok, Err}
 use Rattle.std.proofs.lemmas.Grind.{common_steps}
 use Rattle.std.specs.List.{position_or_len}
-use Rattle.std.specs.Result.{is_ok}
 use Rattle.std.proofs.lemmas.List.Quantifiers.{position-Some}
 use Rattle.std.proofs.lemmas.List.Sums.{fails_before_first}
 use Rattle.grid.specs.Refusals.{first_bad, bytes_check, grid_check}
 use Rattle.grid.specs.declared.Refusal.{Refusal}
-use Rattle.grid.proofs.Table.{and_iff, true_is, false_is, not_fails, not_passes}
+use Rattle.grid.proofs.Table.{and_iff, not_fails, not_passes}
 use Rattle.grid.proofs.Counting.{all_iff}
 
 pub digit_iff : (b : ℕ) → T (is_digit b) ↔ ((49 ≤ b) × (b ≤ 57))
@@ -46,10 +45,6 @@ full_iff b =
 
 long : (l : List ℕ) (rest : Bool) → eqb (length l) 81 && rest ≡ true → length l ≡ 81
 long l rest e = eqb→eq (length l) 81 ((and_iff (eqb (length l) 81) rest).0 (subst T (sym e) tt)).0
-
-pub grid_long : (g : List ℕ) → is_grid g ≡ true → length g ≡ 81
-unfolding is_grid
-grid_long g e = long g _ e
 
 pub full_long : (b : List ℕ) → is_full b ≡ true → length b ≡ 81
 full_long b e = long b _ e
@@ -77,25 +72,19 @@ bytes_iff b = go (first_bad b) refl
     go (Some i) e = let s = position-Some bad b i 0 e in
         rw e ((λ q. absurd (not_accepted _ q)), λ f. absurd (not_passes (has_meaning (byte b i)) s.1 (f i s.0)))
 
--- The keyer's check accepts exactly the grids.
-pub grid_iff : (g : List ℕ) → (grid_check g ≡ Ok tt) ↔ T (is_grid g)
-unfolding grid_check is_grid
+-- The keyer's check accepts exactly the grids: 81 bytes, each with a meaning.
+pub grid_iff : (g : List ℕ) → (grid_check g ≡ Ok tt) ↔ ((length g ≡ 81) × ((c : ℕ) → c < 81 → T (has_meaning (byte g c))))
+unfolding grid_check
 grid_iff g = go (eqb (length g) 81) refl
   where
-    go : (x : Bool) → eqb (length g) 81 ≡ x → (grid_check g ≡ Ok tt) ↔ T (is_grid g)
-    go false e = rw e ((λ q. absurd (not_accepted _ q)), λ t. absurd t)
+    go : (x : Bool) → eqb (length g) 81 ≡ x → (grid_check g ≡ Ok tt) ↔ ((length g ≡ 81) × ((c : ℕ) → c < 81 → T (has_meaning (byte g c))))
+    go false e = rw e ((λ q. absurd (not_accepted _ q)), λ w. absurd (subst T e ((eq_iff (length g) 81).1 w.0)))
     go true e = let n = eqb-true (length g) 81 e in
-        rw e ((λ q. (all_iff 81 _).1 (λ c h. (bytes_iff g).0 q c (omega arith))), λ t. (bytes_iff g).1 (λ c h. (all_iff 81 _).0 t c (omega arith)))
-
--- so a check that accepts says that it is a grid
-pub accepts : (g : List ℕ) (r : Result (Unit {0}) Refusal) → r ≡ grid_check g → is_ok r ≡ is_grid g
-accepts g (Ok u) e = sym (true_is (is_grid g) ((grid_iff g).0 (sym e)))
-accepts g (Err r) e = sym (false_is (is_grid g) (λ t. not_accepted r (e ∙ (grid_iff g).1 t)))
+        rw e ((λ q. (n, λ c h. (bytes_iff g).0 q c (omega arith))), λ w. (bytes_iff g).1 (λ c h. w.1 c (omega arith)))
 
 -- such a grid has 81 bytes
 pub accepted_long : (g : List ℕ) → grid_check g ≡ Ok tt → length g ≡ 81
-unfolding is_grid
-accepted_long g e = eqb→eq (length g) 81 ((and_iff (eqb (length g) 81) _).0 ((grid_iff g).0 e)).0
+accepted_long g e = ((grid_iff g).0 e).0
 
 module _ (g b : List ℕ) where
   kept : T (keeps_givens g b) ↔ ((c : ℕ) → c < 81 → T (is_digit (byte g c)) → byte b c ≡ byte g c)
@@ -124,7 +113,7 @@ module _ (g b : List ℕ) where
       )
 
 -- a byte that gives the digit of a given is that given
-same_given : (x y : ℕ) → digit_of x ≡ digit_of y → T (is_digit y) → T (is_digit x) × (x ≡ y)
+pub same_given : (x y : ℕ) → digit_of x ≡ digit_of y → T (is_digit y) → T (is_digit x) × (x ≡ y)
 unfolding digit_of
 same_given x y e t = go (is_digit x) (is_digit y) e t (digit_iff x).0 (digit_iff y).0
   where
@@ -134,16 +123,17 @@ same_given x y e t = go (is_digit x) (is_digit y) e t (digit_iff x).0 (digit_iff
     go true false q u f h = absurd u
     go false false q u f h = absurd u
 
--- Grids that differ only in their blanks are one grid.
-pub same_grid : (g g' b : List ℕ) → digits_of g ≡ digits_of g' → Legal g b → Legal g' b
+-- grids that differ only in their blanks give the same digit in each cell,
+pub same_digit : (g g' : List ℕ) → digits_of g ≡ digits_of g' → (c : ℕ) → digit_of (byte g c) ≡ digit_of (byte g' c)
 unfolding digit_of is_digit
+same_digit g g' e c = sym (get_or-map digit_of g c 0) ∙ ap (λ d. byte d c) e ∙ get_or-map digit_of g' c 0
+
+-- and have the same legal completions
+pub same_grid : (g g' b : List ℕ) → digits_of g ≡ digits_of g' → Legal g b → Legal g' b
 same_grid g g' b e l =
     record {
       long = l.long;
       digits = l.digits;
-      keeps = λ c h t. let s = same_given (byte g c) (byte g' c) (same c) t in l.keeps c h s.0 ∙ s.1;
+      keeps = λ c h t. let s = same_given (byte g c) (byte g' c) (same_digit g g' e c) t in l.keeps c h s.0 ∙ s.1;
       once = l.once;
     }
-  where
-    same : (c : ℕ) → digit_of (byte g c) ≡ digit_of (byte g' c)
-    same c = sym (get_or-map digit_of g c 0) ∙ ap (λ d. byte d c) e ∙ get_or-map digit_of g' c 0

@@ -1,8 +1,10 @@
 -- A legal completion keeps all givens and has each digit once in each house.
-use Rattle.std.specs.Prelude.{◌≡◌, Bool, ◌&&◌, ◌||◌, not, List, ℕ, ◌+◌, ◌<◌, T, eqb, length}
+use Rattle.std.specs.Prelude.{◌≡◌, Bool, ◌&&◌, ◌||◌, not, List, ℕ, ◌+◌, ◌<◌, T, eqb, length, Result, Ok, Err}
 use Rattle.grid.specs.Counting.{tally, all}
-use Rattle.grid.specs.Grid.{byte, is_digit, has_meaning}
+use Rattle.grid.specs.Grid.{byte, is_digit}
 use Rattle.grid.specs.House.{cell_of}
+use Rattle.grid.specs.Refusals.{on_accepted, grid_check}
+use Rattle.grid.specs.declared.Refusal.{Refusal}
 
 -- at how many cells of house h the digit d + 1 stands, d from 0 to 8
 unfoldable pub times : List ℕ → ℕ → ℕ → ℕ
@@ -31,10 +33,6 @@ each_once b = all 27 (λ h. all 9 (λ d. eqb (times b h d) 1))
 unfoldable pub is_legal : List ℕ → List ℕ → Bool
 is_legal g b = is_full b && (keeps_givens g b && each_once b)
 
--- g is a grid: 81 bytes, each with a meaning
-unfoldable pub is_grid : List ℕ → Bool
-is_grid g = eqb (length g) 81 && all 81 (λ c. has_meaning (byte g c))
-
--- g is a grid, and b a legal completion of it
-unfoldable pub is_completion : List ℕ → List ℕ → Bool
-is_completion g b = is_grid g && is_legal g b
+-- the test of a grid that was keyed: the keyer's check, then whether b is a legal completion
+unfoldable pub completion_call : List ℕ → List ℕ → Result Bool Refusal
+completion_call g b = on_accepted (grid_check g) Err λ u. Ok (is_legal g b)

@@ -2,16 +2,9 @@
 ghost use Rattle.std.specs.Prelude.{◌≡◌, true, not, ◌||◌, ℕ, ◌<◌, eqb, length, get_or};
 ghost use Rattle.grid.specs.Counting.{all};
 ghost use Rattle.grid.specs.Grid.{is_digit};
-ghost use Rattle.grid.specs.Completion.{times, is_full, keeps_givens, each_once, is_grid, is_completion};
+ghost use Rattle.grid.specs.Completion.{times, is_full, keeps_givens, each_once, completion_call};
 
-use super::{check_grid, house_cell};
-
-// Whether the keyer's check accepts the grid.
-fn is_grid(grid: &[u8]) -> bool
-    ensures { result ≡ is_grid grid.now }
-{
-    check_grid(grid).is_ok()
-}
+use super::{Refusal, house_cell, keyed};
 
 // A digit `1` to `9`.
 pub fn is_digit(b: u8) -> bool
@@ -35,15 +28,14 @@ fn keeps_given(given: u8, digit: u8) -> bool
 }
 
 // Whether every given stands in the candidate.
-fn keeps_givens(grid: &[u8], candidate: &[u8]) -> bool
-    requires { (length grid.now ≡ 81) × (length candidate.now ≡ 81) }
+fn keeps_givens(grid: &[u8; 81], candidate: &[u8]) -> bool
+    requires { length candidate.now ≡ 81 }
     ensures { result ≡ keeps_givens grid.now candidate.now }
 {
     (0..81).all(|cell| keeps_given(grid[cell], candidate[cell]))
 }
 
-// How often each digit stands in a house, digit d + 1 at place d. What is asked of the candidate the test has shown before: a type for that would
-// stand for this and the next two steps alone.
+// How often each digit stands in a house, digit d + 1 at place d. That the candidate is full, the test has found before.
 fn count_digits(candidate: &[u8], house: usize) -> [u8; 9]
     requires { (is_full candidate.now ≡ true) × (house < 27) }
     ensures { (d : ℕ) → d < 9 → get_or result d 0 ≡ times candidate.now house d }
@@ -75,10 +67,11 @@ fn each_once(candidate: &[u8]) -> bool
     (0..27).all(|house| house_once(candidate, house))
 }
 
-// Whether the candidate is a legal completion of the grid: false where either is not well formed.
-#[tactic(auto, using(crate::proofs::Completion::grid_long, crate::proofs::Completion::full_long), unfolding(crate::specs::Completion::is_completion, crate::specs::Completion::is_legal))]
-pub fn is_completion(grid: &[u8], candidate: &[u8]) -> bool
-    ensures { result ≡ is_completion grid.now candidate.now }
+// Whether the candidate is a legal completion of the grid, where the keyer's check accepts the grid.
+#[tactic(auto, using(crate::proofs::Completion::full_long), unfolding(crate::specs::Completion::completion_call, crate::specs::Completion::is_legal))]
+pub fn is_completion(grid: &[u8], candidate: &[u8]) -> Result<bool, Refusal>
+    ensures { result ≡ completion_call grid.now candidate.now }
 {
-    is_grid(grid) && is_full(candidate) && keeps_givens(grid, candidate) && each_once(candidate)
+    let grid = keyed(grid)?;
+    Ok(is_full(candidate) && keeps_givens(grid, candidate) && each_once(candidate))
 }

@@ -2,7 +2,8 @@
 //
 //     Refusal        why a call turns its input down
 //     check_grid     the keyer's check of a grid
-//     first_bad_byte, check_bytes    the part of it that a batch shares: that each byte has a meaning
+//     check_bytes    the part of it that a batch shares: that each byte has a meaning
+//     keyed          a grid's bytes as an array, where the check accepts them
 //     legal          the test of a legal completion
 #![tactic(auto)]
 
@@ -94,7 +95,7 @@ fn has_meaning(b: u8) -> bool
 }
 
 // The place of the first byte of no meaning.
-pub fn first_bad_byte(bytes: &[u8]) -> Option<usize>
+fn first_bad_byte(bytes: &[u8]) -> Option<usize>
     ensures { result ≡ first_bad bytes.now }
 {
     bytes.iter().position(|b| !has_meaning(*b))

@@ -133,7 +133,7 @@ impl Kind {
 static KINDS: [Kind; 4] = [Kind::Cell, Kind::Column, Kind::Row, Kind::Box];
 
 // The kinds of which a set has the nine.
-pub fn nine_kinds(set: ClauseSet) -> &'static [Kind]
+pub fn nines_of(set: ClauseSet) -> &'static [Kind]
     ensures { result.now ≡ nines_of set }
 {
     match set {

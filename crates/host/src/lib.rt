@@ -14,7 +14,7 @@
 #![tactic(auto)]
 
 ghost use Rattle.std.specs.Prelude.{◌≡◌};
-ghost use Rattle.grid.specs.Completion.{is_completion};
+ghost use Rattle.grid.specs.Completion.{completion_call};
 ghost use Rattle.grid.specs.Refusals.{grid_check};
 ghost use Rattle.clauses.specs.Call.{clause_call};
 ghost use Rattle.inference.specs.Call.{job_call};
@@ -22,9 +22,8 @@ ghost use Rattle.search.specs.Call.{search_call};
 ghost use Rattle.grading.specs.Grade.{grade_call};
 ghost use Rattle.batch.specs.Call.{batch_call};
 ghost use Rattle.jobfile.specs.Call.{read_call};
-ghost use Rattle.listing.specs.Listing.{header_line, listed};
-ghost use Rattle.packing.specs.Packed.{packed_check, packed_given, packed_run, packed_found, packed_graded, packed_ran, packed_file};
-ghost use Rattle.host.specs.Written.{written};
+ghost use Rattle.listing.specs.Listing.{header_line, listed, Writes};
+ghost use Rattle.packing.specs.Packed.{packed_check, packed_tested, packed_given, packed_run, packed_found, packed_graded, packed_ran, packed_file};
 
 use packing::pack;
 
@@ -36,10 +35,10 @@ pub extern "C" fn grader_check_grid(grid: &[u8]) -> u64
 }
 
 #[unsafe(no_mangle)]
-pub extern "C" fn grader_is_completion(grid: &[u8], candidate: &[u8]) -> bool
-    ensures { result ≡ is_completion grid.now candidate.now }
+pub extern "C" fn grader_is_completion(grid: &[u8], candidate: &[u8]) -> u64
+    ensures { result ≡ packed_tested (completion_call grid.now candidate.now) }
 {
-    grid::legal::is_completion(grid, candidate)
+    pack(grid::legal::is_completion(grid, candidate))
 }
 
 #[unsafe(no_mangle)]
@@ -106,15 +105,15 @@ pub extern "C" fn grader_read_job_file(file: &[u8], grid: &mut [u8], order: &mut
 }
 
 #[unsafe(no_mangle)]
-pub extern "C" fn grader_header(out: &mut [u8; 20])
-    ensures { out.new ≡ header_line }
+pub extern "C" fn grader_header(out: &mut [u8; 64]) -> usize
+    ensures { Writes header_line out.old out.new result }
 {
-    *out = listing::header();
+    listing::header(out)
 }
 
 #[unsafe(no_mangle)]
 pub extern "C" fn grader_list_line(number: u64, line: &[u8], out: &mut [u8; 64]) -> usize
-    ensures { (result, out.new) ≡ written (listed number line.now) out.old }
+    ensures { Writes (listed number line.now) out.old out.new result }
 {
     listing::list_line(number, line, out)
 }

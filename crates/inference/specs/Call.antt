@@ -5,30 +5,38 @@ use Rattle.grid.specs.declared.Refusal.{Refusal}
 use Rattle.grid.specs.declared.Refusal.TheVariants as refusal
 use Rattle.clauses.specs.Clauses.{clauses_of}
 use Rattle.clauses.specs.Models.{givens}
-use Rattle.closure.specs.Marks.{blank}
 use Rattle.closure.specs.Job as job
-use Rattle.closure.specs.Job.{solved, opened, stopped, contradiction, job_end}
+use Rattle.closure.specs.Job.{solved, opened, stopped, contradiction, job_end, count_of, marks_of}
 use Rattle.orders.specs.Order.{order_check}
 use Rattle.orders.specs.Technique.{technique_of}
 use Rattle.orders.specs.declared.technique.Technique.{Technique}
 use Rattle.trials.specs.Steps.{end}
 use Rattle.trials.specs.declared.trial.End.{End}
+use Rattle.trials.specs.declared.trial.Outcome.{Outcome}
 use Rattle.trials.specs.declared.trial.Outcome.TheVariants.{Solved, Open, Stopped, Contradiction}
 
 -- what a job call gives back: the job's end or a refusal, and the lent marks at its return
 abbrev pub Given : Type 0
 Given = Result End Refusal × List ℕ
 
+-- the outcome of a job by its end
+abbrev pub ending : job.End → Outcome
+ending (solved m n) = Solved
+ending (opened m n) = Open
+ending (stopped m n) = Stopped
+ending (contradiction n) = Contradiction
+
 -- at the end of a job: its outcome with its count, and its marks, all 0 after a contradiction
 abbrev pub finished : job.End → Given
-finished (solved m n) = (Ok (end Solved n), m)
-finished (opened m n) = (Ok (end Open n), m)
-finished (stopped m n) = (Ok (end Stopped n), m)
-finished (contradiction n) = (Ok (end Contradiction n), blank)
+finished e = (Ok (end (ending e) (count_of e)), marks_of e)
+
+-- the end of the job of a technique, along an order, from a grid, under a ceiling
+abbrev pub job_end_of : Technique → List ℤ → List ℕ → ℕ → job.End
+job_end_of t o g c = job_end (clauses_of t.set) c t.trials o (givens g)
 
 -- a job that is not refused
 unfoldable pub job_of : Technique → List ℕ → List ℤ → ℕ → Given
-job_of t g o c = finished (job_end (clauses_of t.set) c t.trials o (givens g))
+job_of t g o c = finished (job_end_of t o g c)
 
 -- a refusal changes nothing
 abbrev pub refused : List ℕ → Refusal → Given

@@ -1,11 +1,8 @@
 // The job call: the unit closure of a grid's givens, then trials, after the checks of what is lent.
 ghost use Rattle.std.specs.Prelude.{◌≡◌, Ok};
-ghost use Rattle.clauses.specs.Clauses.{clauses_of};
-ghost use Rattle.clauses.specs.Models.{givens};
-ghost use Rattle.closure.specs.Job.{job_end};
 ghost use Rattle.trials.specs.Known.{CompletionOk};
 ghost use Rattle.trials.specs.Steps.{end, end_of};
-ghost use Rattle.inference.specs.Call.{finished, job_call};
+ghost use Rattle.inference.specs.Call.{finished, job_end_of, job_call};
 
 use grid::{Refusal, keyed};
 use orders::order::Order;
@@ -14,7 +11,7 @@ use propagation::close::close_givens;
 use trials::trial::{End, Job, Outcome};
 use worklist::acting::Worklist;
 
-// The end of a job, with the marks that it leaves: after a contradiction they mean nothing.
+// The end of a job, and the marks of its state, which after a contradiction mean nothing.
 #[derive(Drop)]
 pub struct Ended {
     pub end: End,
@@ -38,8 +35,7 @@ pub fn run_with(
     possible: &[u8; 729],
 ) -> Ended
     requires { CompletionOk grid.now possible.now }
-    ensures { end_of result.end result.marks
-        ≡ job_end (clauses_of technique.set) ceiling technique.trials order.now.entries.now (givens grid.now) }
+    ensures { end_of result.end result.marks ≡ job_end_of technique order.now.entries.now grid.now ceiling }
 {
     let mut list = Worklist::new();
     let Ok(mut state) = close_givens(technique.set, grid, &mut list) else {
@@ -69,8 +65,7 @@ pub fn run_with(
 
 // A job that is not refused.
 pub fn run(technique: Technique, grid: &[u8; 81], order: &Order, ceiling: u32) -> Ended
-    ensures { end_of result.end result.marks
-        ≡ job_end (clauses_of technique.set) ceiling technique.trials order.now.entries.now (givens grid.now) }
+    ensures { end_of result.end result.marks ≡ job_end_of technique order.now.entries.now grid.now ceiling }
 {
     let none = [0u8; 729];
     run_with(technique, grid, order, ceiling, &none)

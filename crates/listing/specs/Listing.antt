@@ -1,5 +1,5 @@
 -- The lines of a listing, byte for byte.
-use Rattle.std.specs.Prelude.{◌≡◌, cond, List, [], ◌∷◌, ◌++◌, ℕ, zero, suc, ◌+◌, ◌/◌, ◌%◌, ltb, set, Result, Ok, Err}
+use Rattle.std.specs.Prelude.{◌≡◌, cond, List, [], ◌∷◌, ◌++◌, ℕ, zero, suc, ◌+◌, ◌/◌, ◌%◌, ◌≤◌, ltb, length, set, take, Result, Ok, Err}
 use Rattle.grid.specs.Refusals as refusals
 use Rattle.grid.specs.declared.Refusal.{Refusal}
 use Rattle.orders.specs.Order.{default_order, default_ceiling}
@@ -39,7 +39,15 @@ listed n line = shown n (grade_call line default_order default_ceiling zeros).0
 abbrev pub NoSix : Type 0
 NoSix = (n : ℕ) (line : List ℕ) (trials : ℕ) → listed n line ≡ shown n (Ok (rating verdict.Stopped trials)) → ⊥
 
+-- of a line longer than a grid its first 82 bytes tell the output line
+abbrev pub LongLine : Type 0
+LongLine = (n : ℕ) (line : List ℕ) → 82 ≤ length line → listed n (take 82 line) ≡ listed n line
+
 -- bytes written from place `at` on
 unfoldable pub put : ℕ → List ℕ → List ℕ → List ℕ
 put at [] out = out
 put at (b ∷ bs) out = put (suc at) bs (set out at b)
+
+-- what a call that writes a text gives back: its length n, for which 64 lent bytes have room, and the bytes with the text at their start
+abbrev pub Writes : List ℕ → List ℕ → List ℕ → ℕ → Type 0
+Writes text out out' n = (n ≡ length text) × (out' ≡ put 0 text out) × (n ≤ 64)

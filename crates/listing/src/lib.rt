@@ -1,12 +1,12 @@
 // The lines of a listing: a line of input is graded under the defaults, and its output line is written into a lent buffer.
 //
-//     header       the header of a listing
-//     list_line    an output line of a listing
+//     header       writes the header of a listing
+//     list_line    writes an output line of a listing
 #![tactic(auto)]
 
 ghost use Rattle.std.specs.Prelude.{◌≡◌, ◌++◌, ◌+◌, ◌≤◌, length};
 ghost use Rattle.arrayvec.specs.ArrayVec.{array_vec_len};
-ghost use Rattle.listing.specs.Listing.{header_line, field, shown, listed, put};
+ghost use Rattle.listing.specs.Listing.{header_line, field, shown, listed, Writes};
 
 use arrayvec::ArrayVec;
 use grading::{Rating, grade};
@@ -15,13 +15,23 @@ use itoa::Buffer;
 use orders::order::{DEFAULT_CEILING, default_order};
 
 // The header of a listing.
-pub const HEADER: [u8; 20] = *b"line verdict trials\n";
+const HEADER: [u8; 20] = *b"line verdict trials\n";
 
-// The header, byte for byte: a function promises what it is, as a constant cannot.
-pub fn header() -> [u8; 20]
-    ensures { result ≡ header_line }
+// Writes a text at the start of a lent buffer, in which any line has room, and says how long it is; what is past it stays.
+#[tactic(auto, using(crate::proofs::Decimal::put_copies))]
+fn write(text: &[u8], out: &mut [u8; 64]) -> usize
+    requires { length text.now ≤ 64 }
+    ensures { Writes text.now out.old out.new result }
 {
-    HEADER
+    out[..text.len()].copy_from_slice(text);
+    text.len()
+}
+
+// Writes the header of a listing.
+pub fn header(out: &mut [u8; 64]) -> usize
+    ensures { Writes header_line out.old out.new result }
+{
+    write(&HEADER, out)
 }
 
 // Writes a number in decimal and a byte after it.
@@ -58,17 +68,13 @@ fn show(number: u64, answer: Result<Rating, Refusal>) -> ArrayVec<u8, 64>
     text
 }
 
-// Grades a line of input under the default order and ceiling, writes its output line into a lent buffer, in which any line has room, and says
-// how long it is; what is past it stays.
-#[tactic(auto, using(crate::proofs::Decimal::put_copies), unfolding(crate::specs::Listing::listed))]
+// Grades a line of input under the default order and ceiling, and writes its output line.
+#[tactic(auto, unfolding(crate::specs::Listing::listed))]
 pub fn list_line(number: u64, line: &[u8], out: &mut [u8; 64]) -> usize
-    ensures { (result ≡ length (listed number line.now)) × (out.new ≡ put 0 (listed number line.now) out.old)
-        × (result ≤ 64) }
+    ensures { Writes (listed number line.now) out.old out.new result }
 {
     let order = default_order();
     let mut completion = [0; 81];
     let answer = grade(line, &order, DEFAULT_CEILING, &mut completion);
-    let text = show(number, answer);
-    out[..text.len()].copy_from_slice(&text);
-    text.len()
+    write(&show(number, answer), out)
 }

@@ -4,7 +4,7 @@
 use mathlib.Core.Path.{◌≡◌, refl, ap, sym, subst, ◌∙◌}
 use mathlib.Core.Logic.{◌↔◌}
 use mathlib.Core.Bool.{Bool, true, false, not, ◌||◌, ◌&&◌}
-use mathlib.Core.List.{List, [], ◌∷◌}
+use mathlib.Core.List.{List, [], ◌∷◌, Memᴰ}
 use Prim.Native.Nat.{ℕ, zero, suc, ◌+◌, ◌*◌, ◌≤◌, ◌<◌, ◌-◌, ◌/◌, ◌%◌}
 use native.Mathlib.Decide.{ℕ_discrete}
 use native.Mathlib.Omega.{arith}
@@ -21,6 +21,7 @@ use Rattle.grid.proofs.Completion.{eq_iff, not_accepted}
 use Rattle.clauses.specs.Clauses.{range, over}
 use Rattle.clauses.specs.Literal.{Literal, is_literal}
 use Rattle.clauses.proofs.Signed.{literal_iff}
+use Rattle.clauses.proofs.Members.{place_of}
 use Rattle.orders.specs.Order.{default_order, first_no_literal, same, repeats, first_repeat, order_check, Literals}
 use Rattle.orders.specs.Place.{table_place}
 
@@ -104,7 +105,11 @@ accepted_order o e = let t = (accepted_iff o).0 e in (
       subst T f ((repeats_iff o j).1 (i, a, q)),
 )
 
--- so no entry of an order that is accepted is anything but a literal
+-- so each entry of an order that is accepted is a literal,
+pub accepted_literal : (o : List ℤ) → order_check o ≡ Ok tt → (l : ℤ) → Memᴰ l o → Literal l
+accepted_literal o e l m = let a = accepted_order o e in let w = place_of (pos 0) o m in subst Literal w.2 (a.1 w.0 (omega (arith, a.0, w.1)))
+
+-- and none is anything else
 pub accepted_no_other : (o : List ℤ) → order_check o ≡ Ok tt → first_no_literal o ≡ length o
 unfolding first_no_literal
 accepted_no_other o e =

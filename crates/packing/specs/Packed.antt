@@ -1,6 +1,7 @@
 -- An answer as one 64-bit number, since an exported call returns no more: bits 56 to 63 hold a refusal's number, 0 for none; bits 48 to
 -- 55 a small result; bits 0 to 47 a place or a count.
-use Rattle.std.specs.Prelude.{List, ℕ, ◌+◌, ◌*◌, ◌%◌, ◌^◌, ℤ, Result, Ok, Err}
+use Rattle.std.specs.Prelude.{Bool, List, ℕ, ◌+◌, ◌*◌, ◌%◌, ◌^◌, ℤ, Result, Ok, Err}
+use Rattle.grid.specs.Counting.{tick}
 use Rattle.grid.specs.Refusals as refusal
 use Rattle.grid.specs.declared.Refusal.{Refusal}
 use Rattle.clauses.specs.Call as clause
@@ -28,6 +29,10 @@ packed bits (Err r) = packed_refusal r
 abbrev pub packed_result : ℕ → ℕ
 packed_result n = n % 256 * 2 ^ 48
 
+-- whether something is so: 1 or 0
+abbrev pub packed_truth : Bool → ℕ
+packed_truth b = packed_result (tick b)
+
 -- a small result with a count
 abbrev pub packed_counted : ℕ → ℕ → ℕ
 packed_counted n k = packed_result n + k % 2 ^ 48
@@ -51,6 +56,10 @@ packed_settings s = packed_counted (technique.number_of s.technique) s.ceiling
 -- what a check says: 0 where it accepts
 abbrev pub packed_check : Result (Unit {0}) Refusal → ℕ
 packed_check = packed packed_nothing
+
+-- what the test of a completion gives back: 1 where the candidate is one, and 0 where it is not
+abbrev pub packed_tested : Result Bool Refusal → ℕ
+packed_tested = packed packed_truth
 
 -- what the clause call gives back: the length, and the lent literals at its return
 abbrev pub packed_given : clause.Given → ℕ × List ℤ

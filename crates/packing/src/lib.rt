@@ -6,8 +6,8 @@
 #![tactic(auto)]
 
 ghost use Rattle.std.specs.Prelude.{◌≡◌, ℕ};
-ghost use Rattle.packing.specs.Packed.{packed_refusal, packed, packed_nothing, packed_result, packed_counted, packed_end, packed_rating};
-ghost use Rattle.packing.specs.Packed.{packed_settings};
+ghost use Rattle.packing.specs.Packed.{packed_refusal, packed, packed_nothing, packed_result, packed_truth, packed_counted, packed_end};
+ghost use Rattle.packing.specs.Packed.{packed_rating, packed_settings};
 
 use grading::Rating;
 use grid::Refusal;
@@ -46,6 +46,15 @@ impl Packs for u32 {
 
     fn bits(self) -> u64 {
         (self as usize).bits()
+    }
+}
+
+// Whether it is so, as 1 or 0.
+impl Packs for bool {
+    ghost bits = { packed_truth };
+
+    fn bits(self) -> u64 {
+        u32::from(self).bits()
     }
 }
 

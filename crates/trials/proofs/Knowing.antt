@@ -30,7 +30,7 @@ use Rattle.closure.proofs.Marks.{has_consistent, has_mark, or_iff, zeros}
 use Rattle.closure.proofs.ClauseSets.{well_formed}
 use Rattle.closure.proofs.Propagation.{unit_closure_ok}
 use Rattle.worklist.proofs.Literals.{place_below, index_place}
-use Rattle.trials.specs.Known.{Names, Named, Succeeds, KnownOk, PossibleOk, CompletionOk}
+use Rattle.trials.specs.Known.{EachNamed, Names, Named, Succeeds, KnownOk, PossibleOk, CompletionOk}
 
 -- the larger of two remainders by 2
 odd_or : (a b : ℕ) → max (a % 2) (b % 2) ≡ 1 → (a % 2 ≡ 1) ⊎ (b % 2 ≡ 1)
@@ -69,40 +69,36 @@ pub known_noted : (s : ClauseSet) (m m' : List ℕ) (l : ℤ) {ks ks' : List ℕ
 known_noted s m m' l {ks} {ks'} r i c long or =
     record {
       long = long;
-      succeeds = λ k v n.
+      each = λ k v n.
           let p = mark_index k in
           let h : p < 729 = omega (arith, index_place k v, place_below k v) in
-          ⊎_elim (r.succeeds k v) (λ x y. has_consistent m' (contradiction_in (has m') c.closed (inside k (names_mark m' i k v x)) y))
+          ⊎_elim (r.each k v) (λ x y. has_consistent m' (contradiction_in (has m') c.closed (inside k (names_mark m' i k v x)) y))
           (names_or (get_or ks p 0) (get_or m' p 0) k (subst (λ b. Names b k) (or p h) n));
     }
   where
     inside : (k : ℤ) → T (has m' k) → (j : ℤ) → With (has m) k j → T (has m' j)
     inside k t j w = ⊎_elim (λ x. c.holds j (inl x)) (λ e. subst (λ y. T (has m' y)) (sym e) t) w
 
+-- what holds of each literal that is named still does where more follows of it
+each_also : {P Q : ℤ → Type 0} {bs : List ℕ} → EachNamed P bs → ((l : ℤ) → P l → Q l) → EachNamed Q bs
+each_also r f = record { long = r.long; each = λ l v n. f l (r.each l v n) }
+
 -- what is possible succeeds
 pub possible_known : (s : ClauseSet) (m : List ℕ) {bs : List ℕ} → PossibleOk s m bs → KnownOk s m bs
 possible_known s m r =
-    record {
-      long = r.long;
-      succeeds = λ l v n k.
-          let w = r.possible l v n in
-          model_consistent w.0 (clauses_of s) w.1 false (With (has m) l) (λ j x. ⊎_elim (w.2 j) (λ e. subst (λ y. T (holds w.0 y)) (sym e) w.3) x) k;
-    }
+    each_also r λ l w k.
+    model_consistent w.0 (clauses_of s) w.1 false (With (has m) l) (λ j x. ⊎_elim (w.2 j) (λ e. subst (λ y. T (holds w.0 y)) (sym e) w.3) x) k
 
 -- and is still possible where the negation of a failed literal joins
 pub possible_joined : (s : ClauseSet) (m m' : List ℕ) (l : ℤ) → Literal l → (Succeeds s m l → ⊥) → IsLeast (UnitClosed (clauses_of s)) (With (has m) (neg_ℤ l)) (has m')
     → (bs : List ℕ) → PossibleOk s m bs → PossibleOk s m' bs
 possible_joined s m m' l v fails c bs r =
-    record {
-      long = r.long;
-      possible = λ k u n.
-          let w = r.possible k u n in
-          let A = w.0 in
-          let joins : T (holds A (neg_ℤ l)) = ⊎_elim
-          (λ t. absurd (fails (λ y. model_consistent A (clauses_of s) w.1 false (With (has m) l) (λ j x. ⊎_elim (w.2 j) (λ e. subst (λ z. T (holds A z)) (sym e) t) x) y)))
-          (λ t. t) (truth_total A l v) in
-          (A, w.1, (λ j t. c.within j t (holds A) (model_rules A (clauses_of s) w.1 false) (λ i x. ⊎_elim (w.2 i) (λ e. subst (λ z. T (holds A z)) (sym e) joins) x)), w.3);
-    }
+    each_also r λ k w.
+    let A = w.0 in
+    let joins : T (holds A (neg_ℤ l)) = ⊎_elim
+    (λ t. absurd (fails (λ y. model_consistent A (clauses_of s) w.1 false (With (has m) l) (λ j x. ⊎_elim (w.2 j) (λ e. subst (λ z. T (holds A z)) (sym e) t) x) y)))
+    (λ t. t) (truth_total A l v) in
+    (A, w.1, (λ j t. c.within j t (holds A) (model_rules A (clauses_of s) w.1 false) (λ i x. ⊎_elim (w.2 i) (λ e. subst (λ z. T (holds A z)) (sym e) joins) x)), w.3)
 
 -- a trial that is known to succeed is one that is kept
 pub known_kept : (s : ClauseSet) (m : List ℕ) (l : ℤ) → Literal l → (T (is_decided m l) → ⊥) → Succeeds s m l → (k : Unit {0} → Answer) → kept ≡ try (unit_closure (clauses_of s) (mark m l)) k
@@ -115,15 +111,11 @@ known_kept s m l v n h k = go (unit_closure (clauses_of s) (mark m l)) (unit_clo
 -- the literals of a legal completion are possible with the unit closure of the givens
 pub completion_possible : (s : ClauseSet) (g m : List ℕ) {bs : List ℕ} → CompletionOk g bs → IsLeast (UnitClosed (clauses_of s)) (λ l. Memᴰ l (givens g)) (has m) → PossibleOk s m bs
 completion_possible s g m r c =
-    record {
-      long = r.long;
-      possible = λ l v n.
-          let w = r.completes l v n in
-          let A = truth_of w.0 in
-          let o = (models_are_completions s g).models w.0 w.1 in
-          (A, o.clauses, (λ k t. c.within k t (holds A) (model_rules A (clauses_of s) o.clauses false) o.keeps), w.2);
-    }
+    each_also r λ l w.
+    let A = truth_of w.0 in
+    let o = (models_are_completions s g).models w.0 w.1 in
+    (A, o.clauses, (λ k t. c.within k t (holds A) (model_rules A (clauses_of s) o.clauses false) o.keeps), w.2)
 
 -- with zeros nothing is said
 pub completion_none : (g : List ℕ) → CompletionOk g (replicate 729 0)
-completion_none g = record { long = length-replicate {A = ℕ} 729 0; completes = λ l v n. absurd (names_none l n) }
+completion_none g = record { long = length-replicate {A = ℕ} 729 0; each = λ l v n. absurd (names_none l n) }

@@ -20,25 +20,31 @@ Names b (negsuc v) = 2 ≤ b
 abbrev pub Named : List ℕ → ℤ → Type 0
 Named bs l = Names (get_or bs (mark_index l) 0) l
 
+-- a byte for each variable, and P of every literal that they name
+pub record EachNamed (P : ℤ → Type 0) (bs : List ℕ) : Type 0 where
+  pub long : length bs ≡ 729
+  pub each : (l : ℤ) → Literal l → Named bs l → P l
+
 -- a trial of l at marks m does not fail
 abbrev pub Succeeds : ClauseSet → List ℕ → ℤ → Type 0
 Succeeds s m l = Contradiction (Least (UnitClosed (clauses_of s)) (With (has m) l)) → ⊥
-
--- every literal that is named succeeds at marks m
-pub record KnownOk (s : ClauseSet) (m bs : List ℕ) : Type 0 where
-  pub long : length bs ≡ 729
-  pub succeeds : (l : ℤ) → Literal l → Named bs l → Succeeds s m l
 
 -- some truth of the variables satisfies the clauses and has the marks and l
 abbrev pub Possible : ClauseSet → List ℕ → ℤ → Type 0
 Possible s m l = (A : Truth) × ((c : Clause) → Memᴰ c (clauses_of s) → Satisfies A c) × ((k : ℤ) → T (has m k) → T (holds A k)) × T (holds A l)
 
--- so it is for every literal that is named
-pub record PossibleOk (s : ClauseSet) (m bs : List ℕ) : Type 0 where
-  pub long : length bs ≡ 729
-  pub possible : (l : ℤ) → Literal l → Named bs l → Possible s m l
+-- l is a literal of a legal completion of the grid
+abbrev pub Completes : List ℕ → ℤ → Type 0
+Completes g l = (b : List ℕ) × Legal g b × T (holds (truth_of b) l)
+
+-- every literal that is named succeeds at marks m
+abbrev pub KnownOk : ClauseSet → List ℕ → List ℕ → Type 0
+KnownOk s m = EachNamed (Succeeds s m)
+
+-- every literal that is named is possible with marks m
+abbrev pub PossibleOk : ClauseSet → List ℕ → List ℕ → Type 0
+PossibleOk s m = EachNamed (Possible s m)
 
 -- every literal that is named is one of a legal completion of the grid
-pub record CompletionOk (g bs : List ℕ) : Type 0 where
-  pub long : length bs ≡ 729
-  pub completes : (l : ℤ) → Literal l → Named bs l → (b : List ℕ) × Legal g b × T (holds (truth_of b) l)
+abbrev pub CompletionOk : List ℕ → List ℕ → Type 0
+CompletionOk g = EachNamed (Completes g)

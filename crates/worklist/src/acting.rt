@@ -9,7 +9,7 @@ ghost use Rattle.groups.specs.Groups.{number_of, first_pair, IsRun};
 ghost use Rattle.worklist.specs.Sums.{SumsOk};
 
 use clauses::ClauseSet;
-use groups::{Kind, nine_kinds, pair_table, slot_of};
+use groups::{Kind, nines_of, pair_table, slot_of};
 
 // A contradiction.
 #[derive(Clone, Copy)]
@@ -156,7 +156,7 @@ impl State {
         requires { IsMarks self.old.marks × SumsOk set self.old.marks self.old.sums × Undecided self.old.marks p }
         ensures { (self.new.marks ≡ update self.old.marks p 1) × (self.new.decided ≡ self.old.decided + 1) × SumsOk set self.new.marks self.new.sums }
     {
-        for &kind in nine_kinds(set) {
+        for &kind in nines_of(set) {
             self.sums[kind.slot_at(p)] += 1024;
         }
         self.marks[p] = 1;
@@ -173,7 +173,7 @@ impl State {
     {
         let weight = 1024 + p as u16;
         let mut n = list.listed;
-        for &kind in nine_kinds(set) {
+        for &kind in nines_of(set) {
             let slot = kind.slot_at(p);
             let sum = self.sums[slot] - weight;
             self.sums[slot] = sum;

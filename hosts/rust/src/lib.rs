@@ -17,8 +17,9 @@
 //! stands for digit z in row x and column y, each from 1 to 9; a literal is a variable with a sign.
 //!
 //! Every call answers whatever it is lent, and returns. A refused call changes no buffer. Refusals are
-//! tested in the order in which a call lists them, and the first is told. An answer of no meaning,
-//! which only another library could give, panics. A call takes less than 1 MiB of stack.
+//! tested in the order in which a call lists them, and the first is told. An answer of no meaning
+//! panics: the library gives none, but a list that [`Finished::of_batch`] is lent may hold some. A
+//! call takes less than 1 MiB of stack.
 
 #![deny(missing_docs, unsafe_code)]
 
@@ -46,10 +47,7 @@ pub const LITERALS: usize = 9;
 /// The most grids of a batch.
 pub const BATCH: usize = 64;
 
-/// The bytes of a listing's header.
-pub const HEADER: usize = 20;
-
-/// The bytes lent for an output line.
+/// The bytes lent for a line of a listing.
 pub const LINE: usize = 64;
 
 /// The ceiling where none is named; no job counts more trials.
@@ -60,7 +58,9 @@ pub const CEILING: u32 = 1_062_882;
 pub struct Refusal {
     /// The cause, by its number.
     pub cause: Cause,
-    /// The place of the cause, from 0; 0 where none is named.
+    /// The place of the cause, from 0: of the byte in the grid or in the whole batch (12), of the
+    /// entry in the order (23, 24), in the job file where the piece begins (31, 32, 33); 0 for the
+    /// others.
     pub place: usize,
 }
 
@@ -84,6 +84,10 @@ pub struct Finished {
 
 impl Finished {
     /// What each job of a batch gave back, in turn, out of the batch's answers.
+    ///
+    /// # Panics
+    ///
+    /// Where no batch filled the answers, the iterator panics at an outcome that is not 1 to 4.
     pub fn of_batch(answers: &[u32]) -> impl Iterator<Item = Finished> + '_ {
         answers.chunks_exact(2).map(|answer| Finished {
             outcome: Outcome::numbered(answer[0]),
@@ -153,19 +157,19 @@ pub fn check_grid(grid: &[u8]) -> Result<(), Refusal> {
     accepted(raw::check_grid(grid))
 }
 
-/// Whether the grid is well formed and the candidate is a legal completion of it: 81 digits that keep
-/// all givens and have each digit once in each row, column and box.
+/// Whether the candidate is a legal completion of the grid: 81 digits that keep all givens and have
+/// each digit once in each row, column and box. Refusals: 11, 12, both of the grid.
 ///
 /// ```
 /// let full = b"123456789456789123789123456231564897564897231897231564312645978645978312978312645";
-/// assert!(grader::is_completion(&[b'.'; 81], full));
-/// assert!(!grader::is_completion(&[b'1'; 81], full));
+/// assert_eq!(grader::is_completion(&[b'.'; 81], full), Ok(true));
+/// assert_eq!(grader::is_completion(&[b'1'; 81], full), Ok(false));
 /// ```
-pub fn is_completion(grid: &[u8], candidate: &[u8]) -> bool {
-    match raw::is_completion(grid, candidate) {
-        0 => false,
-        1 => true,
-        other => panic!("{other} is no bool"),
+pub fn is_completion(grid: &[u8], candidate: &[u8]) -> Result<bool, Refusal> {
+    match unpacked(raw::is_completion(grid, candidate))? {
+        (0, 0) => Ok(false),
+        (1, 0) => Ok(true),
+        other => panic!("{other:?} is no answer"),
     }
 }
 
@@ -306,15 +310,16 @@ pub fn read_job_file(file: &[u8], grid: &mut [u8], order: &mut [i16]) -> Result<
     })
 }
 
-/// The header of a listing.
+/// The header of a listing: `line verdict trials` and a newline. It stands at the start of the lent
+/// bytes; those past it stay.
 ///
 /// ```
-/// assert_eq!(&grader::header(), b"line verdict trials\n");
+/// let mut out = [0; grader::LINE];
+/// assert_eq!(grader::header(&mut out), b"line verdict trials\n");
 /// ```
-pub fn header() -> [u8; HEADER] {
-    let mut out = [0; HEADER];
-    raw::header(&mut out);
-    out
+pub fn header(out: &mut [u8; LINE]) -> &[u8] {
+    let length = raw::header(out);
+    &out[..length]
 }
 
 /// The output line of a line of input, graded under the default order and ceiling: the number, the

@@ -5,7 +5,7 @@
 //! All unsafe code is here. It rests on what is proved of the functions: they read and write nothing
 //! outside what they are lent. A slice passes as its pointer and its length, an array as its pointer.
 
-use crate::{HEADER, LINE};
+use crate::LINE;
 
 extern "C" {
     fn grader_check_grid(grid: *const u8, grid_length: usize) -> u64;
@@ -14,7 +14,7 @@ extern "C" {
         grid_length: usize,
         candidate: *const u8,
         candidate_length: usize,
-    ) -> u8;
+    ) -> u64;
     fn grader_clause(set: u32, number: u32, literals: *mut i16, literals_length: usize) -> u64;
     fn grader_job(
         grid: *const u8,
@@ -63,7 +63,7 @@ extern "C" {
         order: *mut i16,
         order_length: usize,
     ) -> u64;
-    fn grader_header(out: *mut [u8; HEADER]);
+    fn grader_header(out: *mut [u8; LINE]) -> usize;
     fn grader_list_line(
         number: u64,
         line: *const u8,
@@ -78,9 +78,9 @@ pub fn check_grid(grid: &[u8]) -> u64 {
     unsafe { grader_check_grid(grid.as_ptr(), grid.len()) }
 }
 
-/// See [`crate::is_completion`]. The byte is 1 for a legal completion and 0 for anything else.
+/// See [`crate::is_completion`]. The result is 1 for a legal completion and 0 for anything else.
 #[inline]
-pub fn is_completion(grid: &[u8], candidate: &[u8]) -> u8 {
+pub fn is_completion(grid: &[u8], candidate: &[u8]) -> u64 {
     unsafe {
         grader_is_completion(
             grid.as_ptr(),
@@ -186,9 +186,9 @@ pub fn read_job_file(file: &[u8], grid: &mut [u8], order: &mut [i16]) -> u64 {
     }
 }
 
-/// See [`crate::header`].
+/// See [`crate::header`]. Gives the length of the header.
 #[inline]
-pub fn header(out: &mut [u8; HEADER]) {
+pub fn header(out: &mut [u8; LINE]) -> usize {
     unsafe { grader_header(out) }
 }
 

@@ -139,13 +139,13 @@ fn check_grid() {
 
 #[test]
 fn is_completion() {
-    let mut grid = *G;
-    grid[17] = b'0';
-    assert!(grader::is_completion(&grid, G));
-    assert!(!grader::is_completion(G, &grid));
-    assert!(!grader::is_completion(&grid[..80], G));
-    grid[17] = b'x';
-    assert!(!grader::is_completion(&grid, G));
+    let causes = [(Cause::GridLength, 0), (Cause::GridByte, 17)];
+    let (answer, lent) =
+        refused_then_answered(1, &causes, |lent| grader::is_completion(&lent.grid, G));
+    assert!(answer);
+    for candidate in [&lent.grid[..], &G[..80]] {
+        assert_eq!(grader::is_completion(&lent.grid, candidate), Ok(false));
+    }
 }
 
 #[test]
@@ -301,10 +301,13 @@ fn read_job_file() {
 
 #[test]
 fn listing() {
-    assert_eq!(&grader::header(), b"line verdict trials\n");
     let mut out = [FILL; grader::LINE];
+    assert_eq!(grader::header(&mut out), b"line verdict trials\n");
+    assert_eq!(out[20..], [FILL; 44]);
     assert_eq!(grader::list_line(1, G, &mut out), b"1 1 0\n");
-    assert_eq!(out[6..], [FILL; 58]);
+    // The rest of the header stays.
+    assert_eq!(&out[..20], b"1 1 0\nerdict trials\n");
+    assert_eq!(out[20..], [FILL; 44]);
     assert_eq!(
         grader::list_line(u64::MAX, b"12", &mut out),
         b"18446744073709551615 R 11\n"

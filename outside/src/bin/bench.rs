@@ -6,7 +6,8 @@
 //! figure makes it fail. Searches stand beside qqwing, and beside cadical, which gets a formula to
 //! find a completion and one with that blocked, where these are installed; their start, their reading
 //! and their output count. Last, the program that the environment names as GRADELIST grades files of
-//! lines, beside the reference's listing.
+//! lines, beside the reference's listing, which must be the same. A program that ends with another
+//! status than it should is an error.
 
 use reference::cases::{bad, slow, Grid, Random, AI_ESCARGOT, FIGURE_FIVE};
 use reference::clauses::clause_set;
@@ -19,7 +20,7 @@ use reference::{plain, plain_job, plain_search, proved, simple_job};
 use std::fs::File;
 use std::hint::black_box;
 use std::path::Path;
-use std::process::{self, Command, Stdio};
+use std::process::{self, Command, ExitStatus, Stdio};
 use std::thread::sleep;
 use std::time::{Duration, Instant};
 use std::{env, fs, io};
@@ -60,6 +61,16 @@ fn shown(nanoseconds: f64) -> String {
 }
 
 fn main() -> Result<(), String> {
+    let folder = env::temp_dir().join(format!("reference-bench-{}", process::id()));
+    let told = |error: io::Error| format!("temporary folder: {error}");
+    fs::create_dir_all(&folder).map_err(told)?;
+    let answer = table(&folder);
+    let removed = fs::remove_dir_all(&folder).map_err(told);
+    answer.and(removed)
+}
+
+/// Prints the table. The files that programs read and write stand in the folder.
+fn table(folder: &Path) -> Result<(), String> {
     println!(
         "{:<36} {:<7} {:>10} {:>12}   {:<9} {:>10} {:>7}",
         "what", "each", "ours", "a second", "beside", "theirs", "ratio"
@@ -86,8 +97,8 @@ fn main() -> Result<(), String> {
     jobs_beside("published", &published, 4, "simple", simple_job::job)?;
     for (name, grids) in [("published", &published), ("generated", &generated)] {
         searches(name, grids)?;
-        beside_qqwing(name, grids).map_err(|error| format!("qqwing: {error}"))?;
-        beside_cadical(name, grids).map_err(|error| format!("cadical: {error}"))?;
+        beside_qqwing(name, grids, folder).map_err(|error| format!("qqwing: {error}"))?;
+        beside_cadical(name, grids, folder).map_err(|error| format!("cadical: {error}"))?;
         gradings(name, grids)?;
     }
     let bad = [bad(), slow()].concat();
@@ -95,7 +106,7 @@ fn main() -> Result<(), String> {
     let slowest = timed.max_by(|(one, _), (other, _)| one.total_cmp(other));
     let (_, slowest) = slowest.ok_or("the collection is empty")?;
     searches(&format!("slowest of {} bad grids", bad.len()), &[*slowest])?;
-    listings(&published).map_err(|error| format!("gradelist: {error}"))
+    listings(&published, folder).map_err(|error| format!("gradelist: {error}"))
 }
 
 /// The median of each side's times.
@@ -290,16 +301,24 @@ fn search_time(grids: &[Grid], rounds: usize) -> f64 {
     time(grids, 2 * CELLS, search, rounds)
 }
 
+/// An error, unless a program has ended with one of these statuses.
+fn ended(status: ExitStatus, expected: &[i32]) -> io::Result<()> {
+    match status.code() {
+        Some(code) if expected.contains(&code) => Ok(()),
+        _ => Err(io::Error::other(format!("ended with {status}"))),
+    }
+}
+
 /// The proved search and `qqwing --solve` on the same grids, as often as fills qqwing's time. Of
 /// several completions it gives any one.
-fn beside_qqwing(name: &str, grids: &[Grid]) -> io::Result<()> {
+fn beside_qqwing(name: &str, grids: &[Grid], folder: &Path) -> io::Result<()> {
     if Command::new("qqwing").arg("--version").output().is_err() {
         println!("searches, {name}: qqwing is not installed");
         return Ok(());
     }
-    let once = qqwing_time(grids, 1)?;
+    let once = qqwing_time(grids, 1, folder)?;
     let rounds = (QQWING / (once * grids.len() as f64)).max(1.0) as usize;
-    let qqwing = qqwing_time(grids, rounds)?;
+    let qqwing = qqwing_time(grids, rounds, folder)?;
     let proved = search_time(grids, rounds);
     row(
         &format!("searches, {name}"),
@@ -312,31 +331,31 @@ fn beside_qqwing(name: &str, grids: &[Grid]) -> io::Result<()> {
 }
 
 /// The nanoseconds of qqwing for one grid, over all grids in some rounds, read from a file.
-fn qqwing_time(grids: &[Grid], rounds: usize) -> io::Result<f64> {
+fn qqwing_time(grids: &[Grid], rounds: usize, folder: &Path) -> io::Result<f64> {
     let lines: Vec<u8> = grids
         .iter()
         .flat_map(|grid| [grid, &b"\n"[..]].concat())
         .collect();
-    let path = env::temp_dir().join(format!("reference-bench-{}", process::id()));
+    let path = folder.join("grids");
     fs::write(&path, lines.repeat(rounds))?;
     let start = Instant::now();
-    Command::new("qqwing")
+    let status = Command::new("qqwing")
         .args(["--solve", "--one-line"])
         .stdin(File::open(&path)?)
         .stdout(Stdio::null())
         .status()?;
     let time = start.elapsed().as_nanos() as f64;
-    fs::remove_file(&path)?;
+    ended(status, &[0])?;
     Ok(time / (rounds * grids.len()) as f64)
 }
 
 /// The proved search and cadical on the same grids.
-fn beside_cadical(name: &str, grids: &[Grid]) -> io::Result<()> {
+fn beside_cadical(name: &str, grids: &[Grid], folder: &Path) -> io::Result<()> {
     if Command::new("cadical").arg("--version").output().is_err() {
         println!("searches, {name}: cadical is not installed");
         return Ok(());
     }
-    let path = env::temp_dir().join(format!("reference-bench-{}", process::id()));
+    let path = folder.join("formula");
     let mut cadical = 0.0;
     for grid in grids {
         let mut first = [0; CELLS];
@@ -347,15 +366,15 @@ fn beside_cadical(name: &str, grids: &[Grid]) -> io::Result<()> {
             let formula = write(2, grid, added).map_err(|_| io::ErrorKind::InvalidInput)?;
             fs::write(&path, formula)?;
             let start = Instant::now();
-            Command::new("cadical")
+            let status = Command::new("cadical")
                 .arg("-q")
                 .arg(&path)
                 .stdout(Stdio::null())
                 .status()?;
             cadical += start.elapsed().as_nanos() as f64;
+            ended(status, &[10, 20])?;
         }
     }
-    fs::remove_file(&path)?;
     row(
         &format!("searches, {name}"),
         "search",
@@ -371,19 +390,19 @@ const LINES: usize = 100;
 
 /// The program on ever longer files, with the most memory that it holds, and on the shortest beside
 /// the reference's listing.
-fn listings(grids: &[Grid]) -> io::Result<()> {
+fn listings(grids: &[Grid], folder: &Path) -> io::Result<()> {
     let Ok(program) = env::var("GRADELIST") else {
         println!("gradelist: the environment names no program");
         return Ok(());
     };
-    let path = env::temp_dir().join(format!("reference-bench-{}", process::id()));
+    let [input, output] = ["lines", "listing"].map(|name| folder.join(name));
     let lines = |count: usize| -> Vec<u8> {
         let grids = grids.iter().cycle().take(count);
         grids.flat_map(|grid| [grid, &b"\n"[..]].concat()).collect()
     };
     for count in [LINES, 10 * LINES, 100 * LINES] {
-        fs::write(&path, lines(count))?;
-        let (seconds, memory) = program_time(&program, &path)?;
+        fs::write(&input, lines(count))?;
+        let (seconds, memory) = program_time(&program, &input, &output)?;
         println!(
             "gradelist, published, {count} lines: {:.2} s, {:.1} lines a second, {memory} kB at most",
             seconds,
@@ -391,30 +410,38 @@ fn listings(grids: &[Grid]) -> io::Result<()> {
         );
         if count == LINES {
             let start = Instant::now();
-            black_box(gradelist(&lines(count)));
+            let listing = gradelist(&lines(count));
             let reference = start.elapsed().as_nanos() as f64 / count as f64;
+            if fs::read(&output)? != listing.as_bytes() {
+                return Err(io::Error::other("another listing than the reference's"));
+            }
             let ours = 1e9 * seconds / count as f64;
             row("gradelist, published", "line", ours, "reference", reference);
         }
     }
-    fs::remove_file(&path)
+    Ok(())
 }
 
 /// The seconds of a run, and the most memory that was seen in it, in kB.
-fn program_time(program: &str, path: &Path) -> io::Result<(f64, usize)> {
+fn program_time(program: &str, input: &Path, output: &Path) -> io::Result<(f64, usize)> {
     let start = Instant::now();
     let mut child = Command::new(program)
-        .stdin(File::open(path)?)
-        .stdout(Stdio::null())
+        .stdin(File::open(input)?)
+        .stdout(File::create(output)?)
         .spawn()?;
-    let status = format!("/proc/{}/status", child.id());
+    let about = format!("/proc/{}/status", child.id());
     let mut memory = 0;
-    while child.try_wait()?.is_none() {
-        let text = fs::read_to_string(&status).unwrap_or_default();
+    let status = loop {
+        if let Some(status) = child.try_wait()? {
+            break status;
+        }
+        let text = fs::read_to_string(&about).unwrap_or_default();
         let peak = text.lines().find_map(|line| line.strip_prefix("VmHWM:"));
         let peak = peak.and_then(|line| line.split_whitespace().next()?.parse().ok());
         memory = memory.max(peak.unwrap_or(0));
         sleep(Duration::from_millis(1));
-    }
-    Ok((start.elapsed().as_secs_f64(), memory))
+    };
+    let seconds = start.elapsed().as_secs_f64();
+    ended(status, &[0])?;
+    Ok((seconds, memory))
 }

@@ -120,7 +120,7 @@ fn compare_one(
             }
             (Some(text), Some(smallest)) => {
                 let model = read_model(&text).ok_or("the model is no grid")?;
-                if !is_completion(grid, &model) {
+                if is_completion(grid, &model) != Ok(true) {
                     return Err("the model is no legal completion".to_string());
                 }
                 if model < *smallest || found[..round].contains(&model) {

@@ -26,7 +26,7 @@ const CHUNK: usize = 65_536;
 pub fn listings(grids: &[Grid], program: &Path) -> io::Result<[Tally; 2]> {
     let [mut lines, mut runs] = [Tally::default(), Tally::default()];
     let mut random = Random(9);
-    lines.header();
+    lines.text(HEADER, proved::header, || "header".to_string());
     lines.numbers();
     for input in inputs(&mut random, grids) {
         let text = gradelist(&input);
@@ -53,12 +53,19 @@ fn split(input: &[u8]) -> impl Iterator<Item = &[u8]> {
 }
 
 impl Tally {
-    fn header(&mut self) {
-        let mut out = Twice::new(HEADER.len(), no_marks());
-        out.ours().copy_from_slice(HEADER.as_bytes());
-        proved::header(out.theirs().try_into().expect("the header's length"));
+    /// A text and its length, as a call writes it; the bytes past it keep what they hold.
+    fn text(
+        &mut self,
+        expected: &str,
+        write: impl FnOnce(&mut [u8; proved::LINE]) -> usize,
+        input: impl FnOnce() -> String,
+    ) {
+        let mut out = Twice::new(proved::LINE, no_marks());
+        out.ours()[..expected.len()].copy_from_slice(expected.as_bytes());
+        let lent = out.theirs().try_into();
+        let length = write(lent.expect("the length of a line's buffer"));
         let [our, their] = out.first_differing();
-        self.case(their, our, || "header".to_string());
+        self.case((length, their), (expected.len(), our), input);
     }
 
     /// Numbers of one digit to twenty, with a graded line and a refused one.
@@ -77,19 +84,13 @@ impl Tally {
         }
     }
 
-    /// One output line; the bytes past it keep what they hold.
+    /// One output line.
     fn line(&mut self, number: u64, line: &[u8], expected: &str) {
-        let mut out = Twice::new(proved::LINE, no_marks());
-        out.ours()[..expected.len()].copy_from_slice(expected.as_bytes());
-        let lent = out
-            .theirs()
-            .try_into()
-            .expect("the length of a line's buffer");
-        let length = proved::list_line(number, line, lent);
-        let [our, their] = out.first_differing();
-        self.case((length, their), (expected.len(), our), || {
-            format!("line {number}, {}", shown(line))
-        });
+        self.text(
+            expected,
+            |out| proved::list_line(number, line, out),
+            || format!("line {number}, {}", shown(line)),
+        );
         self.answered(answer(expected));
     }
 

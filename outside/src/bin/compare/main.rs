@@ -76,7 +76,7 @@ fn main() -> Result<ExitCode, String> {
         io::Result::Ok([
             ("clause calls", clause_calls()),
             ("grid checks", grid_checks()),
-            ("completion tests", completion_tests()),
+            ("completion tests by answer or refusal", completion_tests()),
             ("jobs by outcome or refusal", jobs.join().expect(ended)),
             ("searches by answer or refusal", searches),
             (
@@ -242,6 +242,7 @@ fn completion_tests() -> Tally {
                 shown(candidate)
             )
         });
+        tally.answered(reference.map_or_else(|refusal| refusal.number, u8::from));
     };
     for round in 0..4_000 {
         let full = random.full();
@@ -305,6 +306,7 @@ fn completion_tests() -> Tally {
         let bytes: Vec<u8> = (0..CELLS).map(|_| random.word() as u8).collect();
         test(&grid, &bytes);
         test(&bytes, &full);
+        test(&bytes[..short], &full);
     }
     for grid in named() {
         for completion in smallest_two(&grid) {

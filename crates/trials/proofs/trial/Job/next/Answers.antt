@@ -101,7 +101,7 @@ returns-then-is_named c =
     let n : Named p.known l =
     subst (λ x. Names (get_or p.known x 0) l) (c.mark_index-at.ensures ∙ ap mark_index e) (subst (Names (get_or p.known c.mark_index-at.result 0)) e (c.is_named.ensures c.if-is_named.true)) in
     record {
-      step = tried j p l u b _ (known_kept j.set p.state.marks l r.1 u (r.0.known.succeeds l r.1 n) (λ v. unit_closure (clauses_of j.set) (mark p.state.marks (neg_ℤ l))));
+      step = tried j p l u b _ (known_kept j.set p.state.marks l r.1 u (r.0.known.each l r.1 n) (λ v. unit_closure (clauses_of j.set) (mark p.state.marks (neg_ℤ l))));
       walking = walking_counted r.0 b;
     }
 

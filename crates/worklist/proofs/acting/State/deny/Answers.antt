@@ -17,7 +17,7 @@ use Rattle.worklist.proofs.acting.State.deny.Goals.{After-slot_at-slot, then-sum
 
 -- the slot is that of the kind whose turn it is
 slot_turn : (c : After-slot_at-slot) → (c.slot_at-slot.result ≡ slot_at (kind_at c.loop-kind.kind-index) c.args.p) × (c.loop-kind.kind-index < nine_kinds c.args.set)
-slot_turn c = turn c.args.set c.loop-kind.kind-index c.args.p c.nine_kinds-kind-items.ensures c.loop-kind-test.true c.slot_at-slot.ensures
+slot_turn c = turn c.args.set c.loop-kind.kind-index c.args.p c.nines_of-kind-items.ensures c.loop-kind-test.true c.slot_at-slot.ensures
 
 pub loop-kind-init : goal.loop-kind-init
 loop-kind-init c =
@@ -64,7 +64,7 @@ loop-kind-preserved c =
         k.n-is,
       )
     ] in
-    let is_clause : c.clause_at.result ≡ clause_in slot = c.clause_at.ensures ∙ ap (λ f. clause_in (slot_at f a.p)) (nine_at a.set Cell i c.nine_kinds-kind-items.ensures c.loop-kind-test.true) in
+    let is_clause : c.clause_at.result ≡ clause_in slot = c.clause_at.ensures ∙ ap (λ f. clause_in (slot_at f a.p)) (nine_at a.set Cell i c.nines_of-kind-items.ensures c.loop-kind-test.true) in
     let lists = listed_next a.set i a.p m l.self.sums (slot_turn at).1 r.marks c.requires.1 w.sums v (omega (arith, b)) w.long w.lists branch in
     rw ((slot_turn at).0, is_clause)
     (record {
@@ -89,7 +89,7 @@ returns c =
     let r = c.requires.0 in
     let w = l.invariant in
     let e = ap (λ x. set x a.p 2) w.marks in
-    let s = weighing_all a.set m (set m a.p 2) l.self.sums (omega (arith, nines_long a.set c.nine_kinds-kind-items.ensures, c.loop-kind-test.false)) w.sums in (
+    let s = weighing_all a.set m (set m a.p 2) l.self.sums (omega (arith, nines_long a.set c.nines_of-kind-items.ensures, c.loop-kind-test.false)) w.sums in (
       e,
       omega (arith, l.self.counted, ap decided w.marks, a.self.now.counted),
       ready_low a.set (set m a.p 2) e (is_marks_set m a.p 2 r.marks c.requires.1 (omega arith, omega arith)) s w.long w.lists,

@@ -13,7 +13,7 @@ use Rattle.worklist.proofs.acting.State.raise.Goals.{After-slot_at}
 
 -- the slot is that of the kind whose turn it is
 slot_turn : (c : After-slot_at) → (c.slot_at.result ≡ slot_at (kind_at c.loop-kind.kind-index) c.args.p) × (c.loop-kind.kind-index < nine_kinds c.args.set)
-slot_turn c = turn c.args.set c.loop-kind.kind-index c.args.p c.nine_kinds-kind-items.ensures c.loop-kind-test.true c.slot_at.ensures
+slot_turn c = turn c.args.set c.loop-kind.kind-index c.args.p c.nines_of-kind-items.ensures c.loop-kind-test.true c.slot_at.ensures
 
 pub loop-kind-init : goal.loop-kind-init
 loop-kind-init c = let a = c.args in let m = a.self.now.marks in (refl, weighing_none a.set m (set m a.p 1) a.self.now.sums c.requires.1)
@@ -52,5 +52,5 @@ returns c =
     let e = ap (λ x. set x a.p 1) l.invariant.0 in (
       e,
       omega (arith, l.self.counted, ap decided l.invariant.0, a.self.now.counted),
-      rw e (weighing_all a.set m (set m a.p 1) l.self.sums (omega (arith, nines_long a.set c.nine_kinds-kind-items.ensures, c.loop-kind-test.false)) l.invariant.1),
+      rw e (weighing_all a.set m (set m a.p 1) l.self.sums (omega (arith, nines_long a.set c.nines_of-kind-items.ensures, c.loop-kind-test.false)) l.invariant.1),
     )

@@ -10,7 +10,7 @@ use Rattle.clauses.specs.Call.{clause_given, padded}
 use Rattle.clauses.specs.Shape.{IsShape, clause_of}
 use Rattle.std.specs.Prelude.{Ok}
 use Rattle.clauses.proofs.Numbers.{sizes, set_long, shape_is, clause_at}
-use Rattle.clauses.proofs.clause_of.Goals as goal
+use Rattle.clauses.proofs.clause_given.Goals as goal
 
 pub returns-then-clause_count-n : goal.returns-then-clause_count-n
 unfolding clause_given
