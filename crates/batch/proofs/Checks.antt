@@ -1,4 +1,5 @@
--- What the checks of a batch say where they accept: how long what is lent is, and that each grid of the batch is accepted.
+-- Where the checks of a batch accept, each of their tests passes, so that what is lent is as long as it must be. Each grid of the batch is 81 of its
+-- bytes, all of which have a meaning, so that the keyer's check accepts it too.
 -- Assumes nothing.
 use mathlib.Core.Path.{◌≡◌, refl, sym, subst, ◌∙◌}
 use mathlib.Core.Bool.{Bool, true, false, ◌&&◌}

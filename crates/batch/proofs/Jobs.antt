@@ -1,4 +1,5 @@
--- Each job of a batch, read off what the batch leaves: its part of the marks, its two numbers, and the ceiling that it got.
+-- Each job of a batch, read off what the batch leaves. The parts stand end to end and are equally long, so that the i-th begins at i times that
+-- length. Each count is within what was left of the ceiling, so that their sum is within the ceiling.
 -- Assumes nothing.
 use mathlib.Core.Path.{◌≡◌, refl, sym, ap, ◌∙◌}
 use mathlib.Core.List.{List, [], ◌++◌}

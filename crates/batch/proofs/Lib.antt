@@ -1,5 +1,4 @@
 pub mod Checks
 pub mod Parts
 pub mod Rows
-pub mod Calls
 pub mod Jobs

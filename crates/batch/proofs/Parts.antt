@@ -1,4 +1,5 @@
--- One job in its part.
+-- One job fills its part. What is told of a job is its end: the marks are that end's, the two numbers that are written are its outcome and its count,
+-- and the count is within the job's ceiling and joins the trials made before.
 -- Assumes nothing.
 use mathlib.Core.Path.{◌≡◌, refl, ap, ◌∙◌}
 use mathlib.Core.List.{List, [], ◌∷◌}

@@ -1,4 +1,5 @@
--- The jobs of a batch one after the other: the parts before the i-th are filled, and the others are as they were lent.
+-- The jobs of a batch one after the other: the parts before the i-th are filled, and the others are as they were lent. The next job's part joins
+-- those that are filled, and after the last nothing that was lent is left.
 -- Assumes nothing.
 use mathlib.Core.Path.{◌≡◌, refl, sym, ap, ◌∙◌}
 use mathlib.Core.List.{List, ◌++◌, append_assoc, append-nil}

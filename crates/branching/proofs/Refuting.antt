@@ -1,7 +1,7 @@
 -- What refutes marks. Where no full grid that fits the marks has a place true, the place may become false, and nothing is lost; where that
 -- is so of all nine places of a group, the marks leave nothing, since a full grid makes one of them true.
 -- Assumes nothing.
-use mathlib.Core.Path.{◌≡◌, refl, subst, ◌∙◌}
+use mathlib.Core.Path.{◌≡◌, refl, subst}
 use mathlib.Core.Logic.{inl, inr}
 use mathlib.Core.List.Memᴰ
 use mathlib.Core.List.{List, [], Memᴰ}
@@ -31,7 +31,7 @@ use Rattle.worklist.specs.declared.acting.Clash.{Clash}
 use Rattle.completions.specs.Left.{left}
 use Rattle.completions.proofs.ByteOrder.{in_order_same}
 use Rattle.completions.proofs.Left.{Fits, Of, model, with_fits, clash_fits, closed_fits, left_in_order, unfit_left}
-use Rattle.branching.specs.Branching.{Refuted, Weighs, WeighsTo}
+use Rattle.branching.specs.Branching.{Refuted, WeighsTo}
 
 module _ (m : List ℕ) (i : IsMarks m) (p : ℕ) where
   -- a place is refuted where it is false, where it makes a contradiction, or where the closure with it leaves nothing
@@ -83,11 +83,3 @@ module _ (st : State) (i : Closed Extended st) where
       let s = model (Of m) b f (clause_of (OneOf g)) ((member_iff Extended (clause_of (OneOf g))).1 (OneOf g, h, tt, refl)) in
       let w = tally_find (true_in (truth_of b) g) 9 ((one_of_iff (truth_of b) g).0 s) in
       r w.0 w.1 b (((left_in_order m i.marks.marks).members b).1 f) w.2
-
--- Trials may leave a state as it is, and what they may do once they may do again.
-pub weighs_none : {st : State} → Closed Extended st → Weighs st st
-weighs_none s = record { state = s; more = omega arith; same = refl }
-
-pub weighed_again : {st st' : State} (st'' : State) (r : Result (Unit {0}) Clash) → Weighs st st' → WeighsTo st' st'' r → WeighsTo st st'' r
-weighed_again st'' (Err c) v e = v.same ∙ e
-weighed_again st'' (Ok u) v w = record { state = w.state; more = omega (arith, v.more, w.more); same = v.same ∙ w.same }

@@ -1,6 +1,11 @@
 // Where a test of a state branches: what is found of it first, and on which group of nine places, of which a full grid makes one true, the tree
-// below looks smallest. A plain look takes the cell with the fewest digits left. A survey first looks for a crowded house and dives for a full grid; then
-// each place is tried, and what the trial decides tells how large the tree below it may be.
+// below looks smallest. A plain look takes the cell with the fewest digits left. A survey first looks for a crowded house and dives for a full grid;
+// then each place is tried, and what the trial decides tells how large the tree below it may be.
+//
+//     Look      how a state is looked at before a branch
+//     Plain     the plain look
+//     Survey    the survey
+//     Test      what a test of states works with
 #![tactic(auto)]
 
 ghost use Rattle.std.specs.Prelude.{◌≡◌, ◌<◌, IfSome, get_or, replicate};

@@ -1,4 +1,5 @@
--- The shape of a clause by its family: each family's numbers, from its first on and before the next one's first.
+-- The shape of a clause by its family. `shape_of` compares a number with where one family after the other ends; from a family's first number on and
+-- before the next one's, the answers are known.
 -- Assumes nothing.
 use mathlib.Core.Path.{◌≡◌, ◌∙◌}
 use mathlib.Core.Bool.{cond}

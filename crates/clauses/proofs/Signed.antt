@@ -1,14 +1,14 @@
--- Literals as the code makes and reads them: 16-bit signed numbers, whose bits give back the number where it fits.
+-- Literals as the code makes and reads them: 16-bit signed numbers, whose bits give back the number where it fits, and both literals of a place below
+-- 729 fit. What is a literal, and that its negation is one, is seen for each sign.
 -- Assumes nothing.
 use mathlib.Core.Path.{◌≡◌, refl, sym, ap, ◌∙◌}
 use mathlib.Core.Logic.{◌↔◌}
-use mathlib.Core.Bool.{Bool, true, false, ◌&&◌}
-use Prim.Native.Nat.{ℕ, zero, suc, ◌+◌, ◌^◌, ◌<◌}
+use mathlib.Core.Bool.{Bool, ◌&&◌}
+use Prim.Native.Nat.{ℕ, zero, suc, ◌^◌, ◌<◌}
 use native.Mathlib.Omega.{arith}
-use borrow.Author.Tests.{ltb-true}
 use lib.Dec.{T, leb, leb→le, le→leb}
-use lib.IntN.{ℤ, pos, negsuc, nat_abs, neg_ℤ, pred_ℤ, ◌-ℤ◌, +ℤ_idl, pred_ℤ-+ℤ}
-use lib.Signed.{mag, non_neg, lt_z}
+use lib.IntN.{ℤ, pos, negsuc, nat_abs, neg_ℤ, ◌-ℤ◌, +ℤ_idl}
+use lib.Signed.{mag}
 use mir.Syntax.{w16}
 use mir.Val.{SFits, hbits, to_z, of_z}
 use mir.ValLaws.{to_z_pos, to_z-of_z}
@@ -45,16 +45,6 @@ module _ (k : ℕ) (h : k < 729) where
 
   pub negative_fits : SFits w16 (negsuc k)
   negative_fits = record { sfits = omega arith }
-
--- below 0, -1 - l is the magnitude less 1
-pub less_one : (l : ℤ) → lt_z l (pos 0) ≡ true → (negsuc 0 -ℤ l ≡ pos (mag l)) × (nat_abs l ≡ mag l + 1)
-less_one (pos n) e = absurd (omega (arith, ltb-true n 0 e))
-less_one (negsuc n) e = (pred_ℤ-+ℤ (pos 0) (pos (suc n)) ∙ ap pred_ℤ (+ℤ_idl (pos (suc n))), omega arith)
-
--- from 0 on, a number is its magnitude
-pub not_below : (l : ℤ) → lt_z l (pos 0) ≡ false → T (non_neg l) × (nat_abs l ≡ mag l)
-not_below (pos n) e = (tt, refl)
-not_below (negsuc n) e = absurd (let z : ◌≡◌ {A = ℕ} 0 1 = cc in omega arith)
 
 -- the code's negation
 pub zero_less : (l : ℤ) → pos 0 -ℤ l ≡ neg_ℤ l

@@ -1,6 +1,9 @@
 // Literals and the two numbered clause sets.
 //
 //     clause        the clause call: a set's clause by its number
+//     ClauseSet     the two sets, by their numbers
+//     Group         nine variables of which a full grid makes one true
+//     Shape         what a clause says of a group
 //     literal       literals as signed 16-bit numbers
 //     decode        a clause's group and places by arithmetic on its number
 #![tactic(auto)]

@@ -79,10 +79,6 @@ left_in_order m i =
 pub unfit_left : (m : List ℕ) → IsMarks m → ((b : List ℕ) → Fits (Of m) b → ⊥) → left m ≡ []
 unfit_left m i n = in_order_same (Fits (Of m)) (Fits (Of m)) (left m) [] (left_in_order m i) (in_order_none (Fits (Of m)) n) (λ b. ((λ f. f), λ f. f))
 
--- of marks that a test does not refute it promises nothing
-pub not_refuted : {A : Type 0} → false ≡ true → A
-not_refuted e = absurd (subst (λ b. T (not b)) e tt)
-
 module _ (G : ℤ → Type 0) where
   -- a grid that fits is a model,
   pub model : (b : List ℕ) → Fits G b → (c : Clause) → Memᴰ c cs → Satisfies (truth_of b) c

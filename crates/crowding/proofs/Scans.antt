@@ -1,4 +1,4 @@
--- What a chain of iterators over a list counts, in the words of counting below a bound.
+-- The true ones among the first n truths of a list: iterators count them as counting below n does, since one truth more adds the same to both.
 -- Assumes nothing.
 use mathlib.Core.Path.{◌≡◌, refl}
 use mathlib.Core.Bool.{Bool, true, false, cond}

@@ -5,7 +5,7 @@
 //     crowded    whether some house is found to be crowded
 #![tactic(auto)]
 
-ghost use Rattle.std.specs.Prelude.{◌≡◌, true, not, ◌||◌, List, ◌≤◌, ◌<◌, eqb};
+ghost use Rattle.std.specs.Prelude.{◌≡◌, true, ◌||◌, List, ◌≤◌, ◌<◌};
 ghost use Rattle.grid.specs.Counting.{tally, all};
 ghost use Rattle.closure.specs.Marks.{IsMarks};
 ghost use Rattle.completions.specs.Left.{left};

@@ -1,5 +1,5 @@
--- A batch call whose checks accept: each part is the job of its grid at the ceiling that was left. One that refuses leaves the lent buffers as
--- they are.
+-- A batch call that is not refused gives back what its jobs leave, since all its checks accept. So the i-th part is that of a job of the i-th grid,
+-- whose ceiling is what the counts before it in the answer list leave of the call's.
 -- Assumes nothing.
 use mathlib.Core.Path.{◌≡◌, refl, sym, ap, ◌∙◌}
 use mathlib.Core.List.{List}
@@ -7,7 +7,7 @@ use Prim.Native.Nat.{ℕ, ◌-◌, ◌≤◌, ◌<◌}
 use native.Mathlib.Omega.{arith}
 use lib.IntN.{ℤ}
 use lib.ListN.{length}
-use Rattle.std.specs.Prelude.{Ok, Err}
+use Rattle.std.specs.Prelude.{Ok}
 use Rattle.grid.specs.Counting.{total}
 use Rattle.grid.specs.Refusals.{bytes_check}
 use Rattle.grid.specs.declared.Refusal.{Refusal}
@@ -43,16 +43,6 @@ module _ (g : List ℕ) (n : ℕ) (o : List ℤ) (c : ℕ) (m a : List ℕ) wher
       checked (refused m a) _ no (technique_of n) _ λ t known.
       checked (refused m a) _ no (order_check o) _ λ w order e.
       record { lent = lent; bytes = bytes; technique = t; known = known; order = order; gives = e }
-
-  -- a call that refuses leaves the lent buffers as they are
-  pub call_refused : (f : Refusal) (t u : List ℕ) → batch_call g n o c m a ≡ (Err f, t, u) → (t ≡ m) × (u ≡ a)
-  unfolding batch_call
-  call_refused f t u =
-      let stays : (h : Refusal) → refused m a h ≡ (Err f, t, u) → (t ≡ m) × (u ≡ a) = λ h e. (ap (λ p. p.1) (sym e), ap (λ p. p.2) (sym e)) in
-      checked (refused m a) _ stays (lent_check (length g) (length m) (length a)) _ λ x lent.
-      checked (refused m a) _ stays (bytes_check g) _ λ y bytes.
-      checked (refused m a) _ stays (technique_of n) _ λ s known.
-      checked (refused m a) _ stays (order_check o) _ λ z order e. absurd (no_answer (ap (λ p. p.0) (sym e)))
 
   module _ (marks answers : List ℕ) (e : batch_call g n o c m a ≡ (Ok tt, marks, answers)) where
     abbrev call : Runs marks answers

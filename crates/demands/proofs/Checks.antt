@@ -1,4 +1,5 @@
--- A call by its checks: each of them accepts, or one refuses.
+-- A call by its checks: where one refuses, the call gives its refusal; where it accepts, what comes after it. So what is claimed of a call's answer
+-- is shown for a refusal, and for what is left once all checks accept.
 -- Assumes nothing.
 use mathlib.Core.Path.{◌≡◌, refl}
 use mathlib.Core.Bool.{Bool, true, false, cond}

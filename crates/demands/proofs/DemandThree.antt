@@ -1,4 +1,5 @@
--- What more givens and stronger rules may change, whole.
+-- What more givens and stronger rules may change, whole: it is shown of two jobs and of two gradings, and what a job call or a grading call gives
+-- back that is not refused is such a one; a batch call gives such a job for each grid.
 -- Assumes nothing.
 use Rattle.demands.specs.DemandThree.{DemandThree}
 use Rattle.demands.proofs.JobsCompared.{of_jobs}

@@ -1,12 +1,9 @@
--- A job call that ends with an outcome is a job, since all its checks accept; and one that refuses leaves the lent marks as they are.
+-- A job call that ends with an outcome is a job, since all its checks accept.
 -- Assumes nothing.
-use mathlib.Core.Path.{◌≡◌, refl, ap, sym, ◌∙◌}
-use mathlib.Core.List.{List}
-use Prim.Native.Nat.{ℕ}
+use mathlib.Core.Path.{◌≡◌, refl, ap}
 use lib.Dec.{eqb}
-use lib.IntN.{ℤ}
 use lib.ListN.{length}
-use Rattle.std.specs.Prelude.{Ok, Err}
+use Rattle.std.specs.Prelude.{Ok}
 use Rattle.grid.specs.Refusals.{grid_check}
 use Rattle.grid.specs.declared.Refusal.{Refusal}
 use Rattle.orders.specs.Order.{order_check}
@@ -15,7 +12,6 @@ use Rattle.trials.specs.Steps.{end}
 use Rattle.inference.specs.Call.{refused, job_call}
 use Rattle.demands.specs.Jobs.{JobCalls}
 use Rattle.demands.proofs.Checks.{tested, checked, no_answer}
-use Rattle.demands.proofs.Ends.{job_gives}
 
 -- a call that ends with an outcome is a job that ran
 pub call_ran : JobCalls
@@ -31,13 +27,3 @@ call_ran g n o c m a k t =
   where
     no : {P : Type 0} (f : Refusal) → refused m f ≡ (Ok (end a k), t) → P
     no f e = absurd (no_answer (ap (λ p. p.0) e))
-
--- a call that refuses leaves the lent marks as they are
-pub call_refused : (g : List ℕ) (n : ℕ) (o : List ℤ) (c : ℕ) (m : List ℕ) (f : Refusal) (t : List ℕ) → job_call g n o c m ≡ (Err f, t) → t ≡ m
-unfolding job_call
-call_refused g n o c m f t =
-    let stays : (h : Refusal) → refused m h ≡ (Err f, t) → t ≡ m = λ h e. ap (λ p. p.1) (sym e) in
-    tested (refused m) _ stays (eqb (length m) 729) _ _ λ long.
-    checked (refused m) _ stays (grid_check g) _ λ u grid.
-    checked (refused m) _ stays (technique_of n) _ λ s known.
-    checked (refused m) _ stays (order_check o) _ λ v order e. absurd (no_answer (ap (λ p. p.0) (sym e ∙ job_gives s g o c)))

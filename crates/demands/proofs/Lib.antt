@@ -7,6 +7,7 @@ pub mod Jobs
 pub mod JobsCompared
 pub mod GradeCalls
 pub mod Reports
+pub mod WriteNothing
 pub mod SameGrid
 pub mod GradingsCompared
 pub mod DemandThree

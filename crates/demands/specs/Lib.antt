@@ -1,5 +1,6 @@
 pub mod Jobs
 pub mod Batches
+pub mod WriteNothing
 pub mod Searches
 pub mod SameGrid
 pub mod Gradings

@@ -1,4 +1,5 @@
--- What is found in one list and then in another is what is found in the two, one after the other.
+-- What is found in one list and then in another is what is found in the two, one after the other: a law for each case, whether none, one or several
+-- are found in each. After several in the first, the second changes nothing.
 -- Assumes nothing.
 use mathlib.Core.Path.{◌≡◌, refl, sym}
 use mathlib.Core.Bool.{true}

@@ -1,4 +1,5 @@
--- Where no cell is open, the marks say the one full grid that they leave.
+-- Where no cell is open, the marks say the one full grid that they leave. Each cell has a digit, and closed marks have no two true places in a pair,
+-- so that these digits are a legal grid. A grid that fits the marks has the marked digit in each cell, so that it is this one.
 -- Assumes nothing.
 use mathlib.Core.Path.{◌≡◌, refl, sym, subst, ◌∙◌}
 use mathlib.Core.Logic.{⊎_elim}

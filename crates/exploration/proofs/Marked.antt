@@ -1,5 +1,5 @@
--- Laws of cells under marks: a cell that is not open has a digit, an open one has none, and more marks with a digit in an open cell leave
--- fewer cells open.
+-- Laws of cells under marks. A cell is open where no digit is marked true in it, so that any other has one. More marks open no cell, so that with
+-- a digit in an open cell they leave fewer open.
 -- Assumes nothing.
 use mathlib.Core.Path.{◌≡◌, refl, ◌∙◌}
 use mathlib.Core.Bool.{Bool, true, false, not}

@@ -1,5 +1,8 @@
 // The complete search: branching on the first open cell, digits rising, so that completions are found in byte order. A branch is entered
 // unless a test refutes it; of that test only this is used, that what it refutes leaves nothing.
+//
+//     find     the search for a grid's completions
+//     Found    what it has found: none, one, or the smallest two
 #![tactic(auto)]
 
 ghost use Rattle.std.specs.Prelude.{◌≡◌, true, List, ◌++◌, ℕ, ◌<◌, eqb};

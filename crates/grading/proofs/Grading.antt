@@ -1,4 +1,5 @@
--- The techniques of a grading, one after the other, and what the search has found.
+-- A grading, as it is defined: what the search has found tells whether techniques run, one after the other, and each one's job makes no more trials
+-- than are left of the ceiling. The one completion that is found is legal, and its marks name only literals that are its own.
 -- Assumes nothing.
 use mathlib.Core.Path.{◌≡◌, refl, ap, sym, subst, ◌∙◌}
 use mathlib.Core.Bool.{Bool, true, false, cond, not}

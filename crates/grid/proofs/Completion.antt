@@ -1,5 +1,5 @@
--- The test of a legal completion decides the statement, the keyer's check accepts exactly the grids, and two grids that differ only in
--- their blanks have the same completions.
+-- The test of a legal completion decides the statement, part by part. The keyer's check accepts exactly the grids, since each byte before the first
+-- of no meaning has one. Two grids that differ only in their blanks have the same completions, since a given is told by its digit.
 -- Assumes nothing.
 use mathlib.Core.Path.{◌≡◌, refl, ap, sym, ◌∙◌, subst}
 use mathlib.Core.Logic.{◌↔◌}
@@ -81,10 +81,6 @@ grid_iff g = go (eqb (length g) 81) refl
     go false e = rw e ((λ q. absurd (not_accepted _ q)), λ w. absurd (subst T e ((eq_iff (length g) 81).1 w.0)))
     go true e = let n = eqb-true (length g) 81 e in
         rw e ((λ q. (n, λ c h. (bytes_iff g).0 q c (omega arith))), λ w. (bytes_iff g).1 (λ c h. w.1 c (omega arith)))
-
--- such a grid has 81 bytes
-pub accepted_long : (g : List ℕ) → grid_check g ≡ Ok tt → length g ≡ 81
-accepted_long g e = ((grid_iff g).0 e).0
 
 module _ (g b : List ℕ) where
   kept : T (keeps_givens g b) ↔ ((c : ℕ) → c < 81 → T (is_digit (byte g c)) → byte b c ≡ byte g c)

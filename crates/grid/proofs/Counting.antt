@@ -1,5 +1,5 @@
--- Laws of counting and of testing below a bound, and the pigeonhole on a square: n things that each have some of n places, where no
--- place has two things, have one place each, and each place has one thing; and so many of the things need as many places.
+-- Laws of counting and of testing below a bound, and the pigeonhole on a square, which has one sum by rows and by columns: n things that each have
+-- some of n places, where no place has two things, have one place each, and each place has one thing; and so many of the things need as many places.
 -- Assumes nothing.
 use mathlib.Core.Path.{◌≡◌, refl, ap, sym, ◌∙◌, subst}
 use mathlib.Core.Logic.{◌↔◌}

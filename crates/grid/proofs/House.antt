@@ -1,4 +1,5 @@
--- The cells of a house by its kind: row x, column y, or the box in band a and stack b.
+-- The cells of a house by its kind: row x, column y, or the box in band a and stack b. What holds of every row, column and box holds of
+-- every house, such as that its cells are below 81.
 -- Assumes nothing.
 use mathlib.Core.Path.{◌≡◌, subst}
 use Prim.Native.Nat.{ℕ, ◌+◌, ◌*◌, ◌-◌, ◌/◌, ◌%◌, ◌<◌}

@@ -1,4 +1,5 @@
--- The least number that passes a test, as a scan of the numbers below n knows it: nothing before it passes, and it passes unless it is n.
+-- The least number below n that passes a test, or n: nothing before it passes, and it passes unless it is n. There is only one, since of two the
+-- smaller would both pass and fail; and a walk up from 0 to the first that passes finds it.
 -- Assumes nothing.
 use mathlib.Core.Path.{◌≡◌, refl}
 use mathlib.Core.Bool.{Bool, true, false}
@@ -28,33 +29,6 @@ module _ (p : ℕ → Bool) where
       go (yes a) b = absurd (one_answer n r s x y a)
       go (no a) (yes b) = absurd (one_answer n s r y x b)
       go (no a) (no b) = omega arith
-
-  -- a scan that has come to n: r is the least number below n that passes, or b, the end of the scan, where none does
-  pub record Scan (b n r : ℕ) : Type 0 where
-    pub most : r ≤ b
-    pub before : (j : ℕ) → j < n → j < r → p j ≡ false
-    pub here : r < b → (r < n) × (p r ≡ true)
-
-  pub scan_none : (b : ℕ) → Scan b 0 b
-  scan_none b = record { most = omega arith; before = λ j h. absurd (omega arith); here = λ h. absurd (omega arith) }
-
-  pub scan_all : (b r : ℕ) → Scan b b r → Least b r
-  scan_all b r s = record { most = s.most; before = λ j h. s.before j (omega (arith, s.most)) h; here = λ h. (s.here h).1 }
-
-  -- one number more, which fails; which passes, and is the first; or is not
-  module _ {b n r : ℕ} (s : Scan b n r) where
-    pub scan_fails : p n ≡ false → Scan b (n + 1) r
-    scan_fails e = record {
-      most = s.most;
-      before = λ j h k. below_more (λ i. i < r → p i ≡ false) n s.before (λ i. e) j h k;
-      here = λ h. let w = s.here h in (omega (arith, w.0), w.1);
-    }
-
-    pub scan_first : n < b → n < r → p n ≡ true → Scan b (n + 1) n
-    scan_first h k e = record { most = omega arith; before = λ j i o. s.before j o (omega arith); here = λ i. (omega arith, e) }
-
-    pub scan_later : r ≤ n → Scan b (n + 1) r
-    scan_later k = record { most = s.most; before = λ j i o. s.before j (omega arith) o; here = λ h. let w = s.here h in (omega (arith, w.0), w.1) }
 
   -- `least_from` gives it, where what comes before its start fails
   from : (a n b : ℕ) → a + n ≡ b → ((j : ℕ) → j < a → p j ≡ false) → Least b (least_from a n p)

@@ -1,4 +1,4 @@
--- An array that is made of a closure: where the closure stays as it is, each place has what it gives there.
+-- An array that is made of a closure, called for each place in turn: where the closure stays as it is, each place has what it gives there.
 -- Assumes nothing.
 use mathlib.Core.Path.{◌≡◌, ap, sym, subst, ◌∙◌}
 use mathlib.Core.List.{List, map}

@@ -4,6 +4,7 @@
 //     check_grid     the keyer's check of a grid
 //     check_bytes    the part of it that a batch shares: that each byte has a meaning
 //     keyed          a grid's bytes as an array, where the check accepts them
+//     house_cell     a cell of a house
 //     legal          the test of a legal completion
 #![tactic(auto)]
 

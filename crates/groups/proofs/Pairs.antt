@@ -1,4 +1,6 @@
--- The numbers of pairs: the code's arithmetic is that of the shapes, and the pairs of a place are exactly the two-literal clauses that it is in.
+-- The numbers of pairs. The code adds an entry of a table to the first number of a run, which gives the number of the pair's shape, since the
+-- entries are right: a test that is computed. By another such test a clause's number is that of its shape, so that the pairs of a place are
+-- exactly the two-literal clauses that it is in.
 -- Assumes nothing.
 use mathlib.Core.Path.{◌≡◌, refl, ap, sym, subst, ◌∙◌}
 use mathlib.Core.Logic.{inl, inr, ⊎_elim}

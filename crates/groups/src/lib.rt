@@ -1,6 +1,12 @@
 // The groups of a place: nine places each, of which a full grid makes one true, and the numbers of the clauses over them. A nine-literal clause has
 // a slot, in which its sum stands: one for each group, in the order of the clauses' numbers. A two-literal clause is a pair of places of a group.
 // Places are plain numbers below 729, as they are computed: a type with that bound would be made and taken apart at each use.
+//
+//     Kind          the cell, the column, the row or the box of a place: its places, its slot, and the numbers of its clauses
+//     Line          the nine places of a group
+//     nines_of      the kinds of which a clause set has the nine-literal clauses
+//     slot_of       the slot of a nine-literal clause
+//     pair_table    the indices of the pairs of nine places, by which their clauses are numbered
 #![tactic(auto)]
 
 ghost use Rattle.std.specs.Prelude.{◌≡◌, ℕ, ◌/◌, ◌<◌};

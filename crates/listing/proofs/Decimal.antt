@@ -1,4 +1,5 @@
--- Decimal numbers, and what is written at the start of a buffer.
+-- A 64-bit number in decimal is the standard library's text of it: both append its last digit to the digits before. Bytes that are put one by one at
+-- the start of a buffer with room for them stand there in their order, and what is past them stays.
 -- Assumes nothing.
 use mathlib.Core.Path.{◌≡◌, refl, ap, ◌∙◌}
 use mathlib.Core.List.{List, [], ◌∷◌, ◌++◌}

@@ -1,4 +1,4 @@
--- A line longer than a grid is refused for its length, whatever its bytes.
+-- A line longer than a grid is refused for its length, whatever its bytes. Its first 82 bytes are such a line too, and so give the same output line.
 -- Assumes nothing.
 use mathlib.Core.Path.{◌≡◌, refl, sym, ◌∙◌}
 use mathlib.Core.List.{List}

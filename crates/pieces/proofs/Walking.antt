@@ -1,4 +1,5 @@
--- The walk from piece to piece, one step at a time.
+-- The walk from piece to piece, one step at a time: from each place that it comes to, what is left of it gives what the whole walk gives. Each piece
+-- takes the place further, so that as many steps as the file has bytes are enough.
 -- Assumes nothing.
 use mathlib.Core.Path.{◌≡◌, refl}
 use mathlib.Core.List.{List}

@@ -1,4 +1,4 @@
--- The givens of a grid join one after the other, from marks with nothing decided: at each cell the marks are the unit closure of the givens before it.
+-- The givens of a grid join marks with nothing decided, one after the other: at each cell the marks are the unit closure of the givens before it.
 -- Assumes nothing.
 use mathlib.Core.Path.{◌≡◌, refl, ap, sym, subst, ◌∙◌}
 use mathlib.Core.Logic.{◌⊎◌, inl, inr, ⊎_elim, ◌↔◌}

@@ -1,6 +1,6 @@
 // Unit closures: of marks with one literal more, and of a grid's givens. The clauses that are listed are looked at one by one, until none is
 // left or one is a contradiction.
-ghost use Rattle.std.specs.Prelude.{◌≡◌, ℕ, suc, ◌<◌, T, pos, Some};
+ghost use Rattle.std.specs.Prelude.{suc, ◌<◌, T, pos, Some};
 ghost use mathlib.Core.List.{Memᴰ};
 ghost use Rattle.clauses.specs.Literal.{Literal};
 ghost use Rattle.clauses.specs.Models.{givens};

@@ -1,6 +1,8 @@
 // A test whether a state leaves no legal full grid. It is a search of its own, which needs one full grid and not the smallest, so that it may
 // branch where the tree looks smallest. A plain attempt is enough for most states; else attempts that survey follow, each with more nodes. All
 // that is promised is that states which are refuted leave nothing.
+//
+//     refuted    whether the test shows that a state leaves nothing
 #![tactic(auto)]
 
 ghost use Rattle.std.specs.Prelude.{◌≡◌, true, List, ◌<◌, OnOk, Err};

@@ -1,4 +1,5 @@
--- What a trial and the steps after it come to.
+-- The next literal of an order comes to what the definition's tests say in turn: it is passed over where its variable is decided, the job stops at
+-- the ceiling, and else a trial is made. Where that fails, the closure of the negation follows, which ends the job where it decides every variable.
 -- Assumes nothing.
 use mathlib.Core.Path.{◌≡◌, refl, ap, subst, ◌∙◌}
 use mathlib.Core.Logic.{inl, inr, ⊎_elim}

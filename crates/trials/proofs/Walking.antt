@@ -1,4 +1,6 @@
--- A pass along an order, and passes one after the other.
+-- A walk along what is left of the order is the step of its next literal, carried on along the rest, and passes are a first walk, carried on
+-- by the passes that are left. Before them stands the closure of the givens, which ends the job where it is a contradiction, where it
+-- decides every variable, or where no trials are made.
 -- Assumes nothing.
 use mathlib.Core.Path.{◌≡◌, refl, ap, sym, ◌∙◌}
 use mathlib.Core.Bool.{Bool, true, false}

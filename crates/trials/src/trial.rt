@@ -1,6 +1,6 @@
 // Trials along an order, in passes, under a ceiling. A trial is made on a copy of the state; the negation of a failed literal joins the state
 // itself. A trial whose success is known is only counted.
-ghost use Rattle.std.specs.Prelude.{◌≡◌, ℕ, ◌≤◌, ◌<◌, T, neg_ℤ, get_or, true};
+ghost use Rattle.std.specs.Prelude.{◌≡◌, ℕ, ◌<◌, T, get_or, true};
 ghost use Rattle.std.specs.Int.Bits.{bit_or};
 ghost use Rattle.clauses.specs.Literal.{Literal};
 ghost use Rattle.clauses.specs.Clauses.{clauses_of};

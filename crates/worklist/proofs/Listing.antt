@@ -1,4 +1,5 @@
--- Pairs are listed, place by place, where their place is undecided.
+-- Pairs are listed, place by place: each is written behind those that are listed, and counts where its place is undecided, so that of the places so
+-- far exactly the undecided ones have their pairs listed. They stand from 325 on, so that the nine-literal clauses that are listed stay so.
 -- Assumes nothing.
 use mathlib.Core.Path.{◌≡◌, refl, ap, sym, subst, ◌∙◌}
 use mathlib.Core.Logic.{◌⊎◌, inl, inr, ⊎_elim}

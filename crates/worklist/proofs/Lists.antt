@@ -1,4 +1,5 @@
--- A list of clauses, each once: one more, or one that is written behind it and does not count; there are at most 324.
+-- A list of clauses, each once. A clause that was not listed may join; one that is written behind the list does not count. There are at most 324,
+-- since different clauses have different slots.
 -- Assumes nothing.
 use mathlib.Core.Path.{◌≡◌, refl, ap, sym, subst, ◌∙◌}
 use mathlib.Core.Bool.{cond}

@@ -1,4 +1,5 @@
--- Literals as places and bytes of marks.
+-- A literal as a place and a byte of marks: to mark it is to put its byte at its place. A variable is undecided exactly where its byte is 0; where it
+-- is, the marks with the byte put have just that literal more.
 -- Assumes nothing.
 use mathlib.Core.Path.{ap, ◌∙◌, ◌≡◌}
 use mathlib.Core.Logic.{inl, inr, ⊎_elim, ◌↔◌}

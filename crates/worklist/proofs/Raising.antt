@@ -1,4 +1,5 @@
--- A place becomes true, and the list is settled: its clauses are taken off, and the others may act as before.
+-- A place becomes true, and the list is settled. What may act now might act before, and so is on the list: the clauses that stay, those with a sum
+-- below 2,048, are all that may act. One with the sum 0 is a contradiction.
 -- Assumes nothing.
 use mathlib.Core.Path.{◌≡◌, sym, subst, ◌∙◌}
 use mathlib.Core.Logic.{inl, ⊎_elim}

@@ -1,5 +1,5 @@
--- The unit rule by groups: a set of literals is closed under it exactly if in each group that the clause set has pairs of a true place strikes
--- the others, and in each group that it has the nine of the last place left is true.
+-- The unit rule by groups. Each clause speaks of two places of a group or of all nine, so that a set of literals is closed under the rule exactly if
+-- in each group that the clause set has pairs of, a true place strikes the others, and in each that it has the nine of, the last place left is true.
 -- Assumes nothing.
 use mathlib.Core.Path.{◌≡◌, refl, ap, sym, subst, ◌∙◌}
 use mathlib.Core.Logic.{⊎_elim}

@@ -1,4 +1,5 @@
--- The clauses of a list are looked at one by one: those with a sum below 2,048 stay, in their order.
+-- The clauses of a list are looked at one by one, and those with a sum below 2,048 stay. They are written to the front of the same list, never past
+-- the one that is looked at, so that those to come stand where they stood. A sum of 0 among them is a contradiction.
 -- Assumes nothing.
 use mathlib.Core.Path.{◌≡◌, refl, ap, sym, subst, ◌∙◌}
 use mathlib.Core.Logic.{◌⊎◌, inl, inr, ⊎_elim}

@@ -1,4 +1,5 @@
--- Places that are struck, one after the other.
+-- Places are struck one after the other. One that is undecided becomes false, and nothing else is new; one that is false stays so. So each joins
+-- those that are struck before it, and a place that was not true is still not.
 -- Assumes nothing.
 use mathlib.Core.Path.{◌≡◌, refl, ap, sym, subst, ◌∙◌}
 use mathlib.Core.Logic.{◌⊎◌, inl, inr, ⊎_elim, ◌↔◌}
@@ -23,10 +24,6 @@ pub signs_differ : (a b : ℕ) → pos (suc a) ≡ negsuc b → ⊥
 signs_differ a b e = let z : ◌≡◌ {A = ℕ} 0 1 = cc in omega arith
 
 module _ (s : ClauseSet) where
-  -- no place
-  pub strikes_none : {O : ℕ → Type 0} {st : State} {l : Worklist} → ((q : ℕ) → O q → ⊥) → Ready s st l → Strikes s O st.marks st l
-  strikes_none n r = record { ready = r; keeps = λ l t. t; struck = λ q o. absurd (n q o); only = λ l t. inl t }
-
   module _ (q : ℕ) {st : State} {l : Worklist} (h : q < 729) where
     -- a place that is false
     pub strikes_already : Ready s st l → (True st.marks q → ⊥) → (get_or st.marks q 0 ≡ 0 → ⊥) → Strikes s (λ x. x ≡ q) st.marks st l

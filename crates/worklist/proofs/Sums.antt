@@ -1,4 +1,5 @@
--- Sums of weights: what a sum below 2,048 tells, and how a sum changes with a mark.
+-- Sums of weights. A weight is 0 or at least 1,024, so that in a sum below 2,048 at most one place weighs: it is undecided, and the sum tells which.
+-- A clause has such a sum exactly where it may act. A mark changes the weight of its place alone, and the sums that the place is in by as much.
 -- Assumes nothing.
 use mathlib.Core.Path.{◌≡◌, refl, ap, sym, ◌∙◌}
 use mathlib.Core.Logic.{◌⊎◌, inl, inr, ⊎_elim}

@@ -1,5 +1,5 @@
 -- The list of clauses that may act: what holds of marks, sums and list between two looks at a clause.
-use Rattle.std.specs.Prelude.{◌≡◌, ◌⊎◌, List, ℕ, suc, ◌+◌, ◌*◌, ◌-◌, ◌≤◌, ◌<◌, T, ℤ, pos, negsuc, length, get_or, Some, None, Option, Ok, Err, IsErr, IsOk, Result}
+use Rattle.std.specs.Prelude.{◌≡◌, ◌⊎◌, List, ℕ, suc, ◌+◌, ◌*◌, ◌-◌, ◌≤◌, ◌<◌, T, ℤ, pos, negsuc, length, get_or, set, Some, None, Option, Ok, Err, IsErr, IsOk, Result}
 use Rattle.clauses.specs.Clauses.{clauses_of}
 use Rattle.clauses.specs.Shape.{place_of}
 use Rattle.clauses.specs.declared.ClauseSet.{ClauseSet}
@@ -31,6 +31,12 @@ Listed ls n c = (i : ℕ) × (i < n) × (get_or ls i 0 ≡ c)
 -- place p is undecided
 abbrev pub Undecided : List ℕ → ℕ → Type 0
 Undecided m p = (p < 729) × (get_or m p 0 ≡ 0)
+
+-- place p gets the mark b, one more variable is decided, and P holds then
+pub record Becomes (st st' : State) (p b : ℕ) (P : Type 0) : Type 0 where
+  pub marks : st'.marks ≡ set st.marks p b
+  pub decided : st'.decided ≡ st.decided + 1
+  pub holds : P
 
 -- all places of a group but the k-th are false
 abbrev pub AllBut : List ℕ → Group → ℕ → Type 0

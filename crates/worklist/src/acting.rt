@@ -2,7 +2,7 @@
 // two-literal ones, pairs, with the place that each would strike beside it. A place that is decided changes the sums of the clauses that it is in. One
 // that becomes false lists those that come to act; one that becomes true takes its own off, and lists its pairs, and these act at once, so that
 // between two steps none is left.
-ghost use Rattle.std.specs.Prelude.{◌≡◌, ℕ, ◌+◌, ◌*◌, ◌≤◌, ◌<◌, length, set as update};
+ghost use Rattle.std.specs.Prelude.{◌≡◌, ◌+◌, ◌*◌, ◌≤◌, ◌<◌, length, set as update};
 ghost use Rattle.closure.specs.Marks.{decided as decisions, IsMarks};
 ghost use Rattle.clauses.specs.declared.ClauseSet.TheVariants.{Extended};
 ghost use Rattle.groups.specs.Groups.{number_of, first_pair, IsRun};
@@ -147,14 +147,14 @@ pub struct State {
 }
 
 impl State {
-    ghost use Rattle.worklist.specs.Acting.{Ready, Struck, Undecided, PairsReady, True, Struckable, Strikes, StepsTo};
+    ghost use Rattle.worklist.specs.Acting.{Ready, Becomes, Struck, Undecided, PairsReady, True, Struckable, Strikes, StepsTo};
 
     // An undecided place becomes true: it weighs more.
     #[tactic(auto, using(groups::proofs::Slots::slot_below))]
     #[inline]
     fn raise(&mut self, set: ClauseSet, p: usize)
         requires { IsMarks self.old.marks × SumsOk set self.old.marks self.old.sums × Undecided self.old.marks p }
-        ensures { (self.new.marks ≡ update self.old.marks p 1) × (self.new.decided ≡ self.old.decided + 1) × SumsOk set self.new.marks self.new.sums }
+        ensures { Becomes self.old self.new p 1 (SumsOk set self.new.marks self.new.sums) }
     {
         for &kind in nines_of(set) {
             self.sums[kind.slot_at(p)] += 1024;
@@ -169,7 +169,7 @@ impl State {
     #[inline]
     pub fn deny(&mut self, list: &mut Worklist, set: ClauseSet, p: usize)
         requires { Ready set self.old list.old × Undecided self.old.marks p }
-        ensures { (self.new.marks ≡ update self.old.marks p 2) × (self.new.decided ≡ self.old.decided + 1) × Ready set self.new list.new }
+        ensures { Becomes self.old self.new p 2 (Ready set self.new list.new) }
     {
         let weight = 1024 + p as u16;
         let mut n = list.listed;

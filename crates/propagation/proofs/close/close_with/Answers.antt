@@ -98,7 +98,7 @@ begun c =
       | then-literal-lt0 w ↦
           rw (w.state-is, w.list-is)
           (begun_false a.set a.state.now a.literal r.0 r.1 r.2 _ p
-          (below_byte a.literal (test_of (λ z. lt_z z (pos 0)) true a.literal c.ranges.literal w.if-literal-lt0.true)) w.deny.ensures.0 w.deny.ensures.2)
+          (below_byte a.literal (test_of (λ z. lt_z z (pos 0)) true a.literal c.ranges.literal w.if-literal-lt0.true)) w.deny.ensures.marks w.deny.ensures.holds)
       | else-literal-lt0+in_ok-affirm w ↦
           rw (w.state-is, w.list-is)
           (begun_true a.set a.state.now a.literal r.0 r.1 r.2 _ p

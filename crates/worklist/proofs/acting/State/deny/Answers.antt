@@ -89,8 +89,9 @@ returns c =
     let r = c.requires.0 in
     let w = l.invariant in
     let e = ap (λ x. set x a.p 2) w.marks in
-    let s = weighing_all a.set m (set m a.p 2) l.self.sums (omega (arith, nines_long a.set c.nines_of-kind-items.ensures, c.loop-kind-test.false)) w.sums in (
-      e,
-      omega (arith, l.self.counted, ap decided w.marks, a.self.now.counted),
-      ready_low a.set (set m a.p 2) e (is_marks_set m a.p 2 r.marks c.requires.1 (omega arith, omega arith)) s w.long w.lists,
-    )
+    let s = weighing_all a.set m (set m a.p 2) l.self.sums (omega (arith, nines_long a.set c.nines_of-kind-items.ensures, c.loop-kind-test.false)) w.sums in
+    record {
+      marks = e;
+      decided = omega (arith, l.self.counted, ap decided w.marks, a.self.now.counted);
+      holds = ready_low a.set (set m a.p 2) e (is_marks_set m a.p 2 r.marks c.requires.1 (omega arith, omega arith)) s w.long w.lists;
+    }

@@ -49,8 +49,9 @@ returns c =
     let a = c.args in
     let l = c.loop-kind in
     let m = a.self.now.marks in
-    let e = ap (λ x. set x a.p 1) l.invariant.0 in (
-      e,
-      omega (arith, l.self.counted, ap decided l.invariant.0, a.self.now.counted),
-      rw e (weighing_all a.set m (set m a.p 1) l.self.sums (omega (arith, nines_long a.set c.nines_of-kind-items.ensures, c.loop-kind-test.false)) l.invariant.1),
-    )
+    let e = ap (λ x. set x a.p 1) l.invariant.0 in
+    record {
+      marks = e;
+      decided = omega (arith, l.self.counted, ap decided l.invariant.0, a.self.now.counted);
+      holds = rw e (weighing_all a.set m (set m a.p 1) l.self.sums (omega (arith, nines_long a.set c.nines_of-kind-items.ensures, c.loop-kind-test.false)) l.invariant.1);
+    }
