@@ -1,5 +1,5 @@
--- The jobs of the bench table, as one list of rows: a job, and what is expected of its end. That is so along every order, and under every
--- ceiling where no trials are made.
+-- The jobs of the bench table, as one list of rows: a job, and what is expected of its end. It is expected along every order that the check accepts and,
+-- where no trials are made, under every ceiling.
 use Rattle.std.specs.Prelude.{◌≡◌, Bool, true, false, ℕ, ◌+◌, ◌*◌, ◌-◌, ℤ, get_or, replicate, set, Ok}
 use mathlib.Core.List.{List, [], ◌∷◌, ◌++◌, Memᴰ}
 use Rattle.grid.specs.Examples.{G}

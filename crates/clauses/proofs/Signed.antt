@@ -1,5 +1,5 @@
 -- Literals as the code makes and reads them: 16-bit signed numbers, whose bits give back the number where it fits, and both literals of a place below
--- 729 fit. What is a literal, and that its negation is one, is seen for each sign.
+-- 729 fit. That the test of a literal decides what one is, and that its negation is one, is shown sign by sign.
 -- Assumes nothing.
 use mathlib.Core.Path.{◌≡◌, refl, sym, ap, ◌∙◌}
 use mathlib.Core.Logic.{◌↔◌}

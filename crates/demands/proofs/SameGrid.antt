@@ -1,5 +1,5 @@
--- Grids that differ only in their signs for a blank have the same given, or none, in each cell, and the same grids complete them. A call that accepts
--- a grid looks only at its givens and its completions, so that no call tells the two apart.
+-- Grids that differ only in their signs for a blank have the same given, or none, in each cell, and the same grids complete them. A job, a search or a
+-- grading that accepts a grid looks only at its givens and its completions, so that it does not tell the two apart.
 -- Assumes nothing.
 use mathlib.Core.Path.{◌≡◌, refl, sym, ap}
 use mathlib.Core.Bool.{Bool, true, false}

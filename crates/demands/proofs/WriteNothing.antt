@@ -1,4 +1,4 @@
--- A call that ends with a refusal has it from one of its checks, which leaves what was lent: where all accept, it ends with a result.
+-- A call that ends with a refusal has it from one of its checks, and then what was lent is left as it was: where all accept, it ends with a result.
 -- Assumes nothing.
 use mathlib.Core.Path.{◌≡◌, ap, sym}
 use mathlib.Core.Bool.{Bool, true, false, ◌&&◌, cond}

@@ -6,7 +6,7 @@ use Rattle.inference.specs.Call.{job_call}
 use Rattle.search.specs.Call.{search_call}
 use Rattle.grading.specs.Grade.{grade_call}
 
--- each call gives back the same for both
+-- the job, the search and the grading call give back the same for both
 pub record SameCalls (g h : List ℕ) : Type 0 where
   pub jobs : (n : ℕ) (o : List ℤ) (c : ℕ) (m : List ℕ) → job_call g n o c m ≡ job_call h n o c m
   pub searches : (a b : List ℕ) → search_call g a b ≡ search_call h a b

@@ -35,7 +35,7 @@ fn keeps_givens(grid: &[u8; 81], candidate: &[u8]) -> bool
     (0..81).all(|cell| keeps_given(grid[cell], candidate[cell]))
 }
 
-// How often each digit stands in a house, digit d + 1 at place d. That the candidate is full, the test has found before.
+// How often each digit stands in a house, digit d + 1 at place d. The test has found before that the candidate is full.
 fn count_digits(candidate: &[u8], house: usize) -> [u8; 9]
     requires { (is_full candidate.now ≡ true) × (house < 27) }
     ensures { (d : ℕ) → d < 9 → get_or result d 0 ≡ times candidate.now house d }

@@ -49,5 +49,7 @@ put at [] out = out
 put at (b ∷ bs) out = put (suc at) bs (set out at b)
 
 -- what a call that writes a text gives back: its length n, for which 64 lent bytes have room, and the bytes with the text at their start
-abbrev pub Writes : List ℕ → List ℕ → List ℕ → ℕ → Type 0
-Writes text out out' n = (n ≡ length text) × (out' ≡ put 0 text out) × (n ≤ 64)
+pub record Writes (text out out' : List ℕ) (n : ℕ) : Type 0 where
+  pub length : n ≡ length text
+  pub bytes : out' ≡ put 0 text out
+  pub room : n ≤ 64

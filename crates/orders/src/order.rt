@@ -73,7 +73,7 @@ pub fn check_order(order: &[i16]) -> Result<(), Refusal>
     }
 }
 
-// An order of trials as the jobs go by it: of what the check says they need that each entry is a literal.
+// An order of trials. Of what the check tells, a job needs only this: each entry is a literal.
 #[derive(Clone, Copy)]
 pub struct Order<'a> {
     pub entries: &'a [i16],

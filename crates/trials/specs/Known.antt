@@ -20,7 +20,7 @@ Names b (negsuc v) = 2 ≤ b
 abbrev pub Named : List ℕ → ℤ → Type 0
 Named bs l = Names (get_or bs (mark_index l) 0) l
 
--- a byte for each variable, and P of every literal that they name
+-- a byte for each variable, and P holds of every literal that the bytes name
 pub record EachNamed (P : ℤ → Type 0) (bs : List ℕ) : Type 0 where
   pub long : length bs ≡ 729
   pub each : (l : ℤ) → Literal l → Named bs l → P l
