@@ -18,9 +18,9 @@ use Rattle.std.proofs.lemmas.Grind.{common_steps}
 use Rattle.std.specs.List.{position_or_len}
 use Rattle.std.proofs.lemmas.List.Quantifiers.{position-Some}
 use Rattle.std.proofs.lemmas.List.Sums.{fails_before_first}
-use Rattle.grid.specs.Refusals.{first_bad, bytes_check, grid_check}
+use Rattle.grid.specs.Refusals.{first_bad, IsGrid, bytes_check, grid_check}
 use Rattle.grid.specs.declared.Refusal.{Refusal}
-use Rattle.grid.proofs.Table.{and_iff, not_fails, not_passes}
+use Rattle.grid.proofs.Table.{and_iff, true_is, not_fails, not_passes}
 use Rattle.grid.proofs.Counting.{all_iff}
 
 pub digit_iff : (b : ℕ) → T (is_digit b) ↔ ((49 ≤ b) × (b ≤ 57))
@@ -73,11 +73,11 @@ bytes_iff b = go (first_bad b) refl
         rw e ((λ q. absurd (not_accepted _ q)), λ f. absurd (not_passes (has_meaning (byte b i)) s.1 (f i s.0)))
 
 -- The keyer's check accepts exactly the grids: 81 bytes, each with a meaning.
-pub grid_iff : (g : List ℕ) → (grid_check g ≡ Ok tt) ↔ ((length g ≡ 81) × ((c : ℕ) → c < 81 → T (has_meaning (byte g c))))
+pub grid_iff : (g : List ℕ) → (grid_check g ≡ Ok tt) ↔ IsGrid g
 unfolding grid_check
 grid_iff g = go (eqb (length g) 81) refl
   where
-    go : (x : Bool) → eqb (length g) 81 ≡ x → (grid_check g ≡ Ok tt) ↔ ((length g ≡ 81) × ((c : ℕ) → c < 81 → T (has_meaning (byte g c))))
+    go : (x : Bool) → eqb (length g) 81 ≡ x → (grid_check g ≡ Ok tt) ↔ IsGrid g
     go false e = rw e ((λ q. absurd (not_accepted _ q)), λ w. absurd (subst T e ((eq_iff (length g) 81).1 w.0)))
     go true e = let n = eqb-true (length g) 81 e in
         rw e ((λ q. (n, λ c h. (bytes_iff g).0 q c (omega arith))), λ w. (bytes_iff g).1 (λ c h. w.1 c (omega arith)))
@@ -107,6 +107,13 @@ module _ (g b : List ℕ) where
             record { long = ((full_iff b).0 u.0).0; digits = ((full_iff b).0 u.0).1; keeps = kept.0 v.0; once = once.0 v.1 }),
         λ l. x.1 ((full_iff b).1 (l.long, l.digits), y.1 (kept.1 l.keeps, once.1 l.once)),
       )
+
+-- so does its value
+pub legal_true : (g b : List ℕ) (x : Bool) → x ≡ is_legal g b → (x ≡ true) ↔ Legal g b
+legal_true g b x e = (
+  (λ q. (legal_iff g b).0 (subst T (sym q ∙ e) tt)),
+  λ l. e ∙ true_is (is_legal g b) ((legal_iff g b).1 l),
+)
 
 -- a byte that gives the digit of a given is that given
 pub same_given : (x y : ℕ) → digit_of x ≡ digit_of y → T (is_digit y) → T (is_digit x) × (x ≡ y)

@@ -1,7 +1,8 @@
 -- Refusals, and the keyer's check of a grid.
-use Rattle.std.specs.Prelude.{cond, not, List, ℕ, eqb, length, Option, None, Some, Result, Ok, Err}
+use Rattle.std.specs.Prelude.{◌≡◌, ◌<◌, T, ◌==◌, Bool, true, false, cond, not, List, [], ◌∷◌, ℕ, eqb, length, Option, None, Some, Result, Ok, Err}
 use Rattle.std.specs.List.{position}
-use Rattle.grid.specs.Grid.{has_meaning}
+use Rattle.std.specs.Option.{option_map}
+use Rattle.grid.specs.Grid.{byte, has_meaning}
 use Rattle.grid.specs.declared.Refusal.{Refusal}
 use Rattle.grid.specs.declared.Refusal.TheVariants.{GridLength, GridByte, Technique, OrderLength, OrderEntry, OrderRepeat, PieceCut, PieceKind, PieceLength, PieceMissing}
 use Rattle.grid.specs.declared.Refusal.TheVariants.{MarksLength, BufferLength, ClauseSet, ClauseNumber, LiteralsLength, OrderBuffer, BatchLength, AnswersLength}
@@ -48,6 +49,17 @@ named_place OrderBuffer = 0
 named_place BatchLength = 0
 named_place AnswersLength = 0
 
+-- a rule of the stated form: kept, or broken, and then with the refusal that tells of it
+abbrev pub rule : Bool → Refusal → Option Refusal
+rule true r = None
+rule false r = Some r
+
+-- the refusal of the first rule that is broken, of some in their order
+abbrev pub first_broken : List (Option Refusal) → Option Refusal
+first_broken [] = None
+first_broken (None ∷ rules) = first_broken rules
+first_broken (Some r ∷ rules) = Some r
+
 -- on where a check accepts, with what it gives; else what a refusal gives
 abbrev pub on_accepted : {A B : Type 0} → Result A Refusal → (Refusal → B) → (A → B) → B
 on_accepted (Ok a) refused k = k a
@@ -61,6 +73,18 @@ refuse_at refusal (Some place) = Err (refusal place)
 -- the place of the first byte of no meaning
 abbrev pub first_bad : List ℕ → Option ℕ
 first_bad bytes = position (λ b. not (has_meaning b)) bytes
+
+-- each byte has a meaning: 12, at the place of the first that has none
+abbrev pub bytes_rule : List ℕ → Option Refusal
+bytes_rule bytes = option_map GridByte (first_bad bytes)
+
+-- the rules of a grid: 11, that it is 81 bytes long; 12, that each has a meaning
+unfoldable pub grid_rules : List ℕ → List (Option Refusal)
+grid_rules g = rule (length g == 81) GridLength ∷ bytes_rule g ∷ []
+
+-- what the keyer's check accepts
+abbrev pub IsGrid : List ℕ → Type 0
+IsGrid g = (length g ≡ 81) × ((c : ℕ) → c < 81 → T (has_meaning (byte g c)))
 
 -- 12: the first byte of no meaning, at its place
 unfoldable pub bytes_check : List ℕ → Result (Unit {0}) Refusal

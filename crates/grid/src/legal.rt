@@ -1,8 +1,10 @@
 // The test of a legal completion.
-ghost use Rattle.std.specs.Prelude.{◌≡◌, true, not, ◌||◌, ℕ, ◌<◌, eqb, length, get_or};
+ghost use Rattle.std.specs.Prelude.{◌≡◌, ◌↔◌, true, not, ◌||◌, ℕ, ◌<◌, eqb, length, get_or, IsTrue, IfOk};
+ghost use Rattle.std.specs.Result.{result_err};
 ghost use Rattle.grid.specs.Counting.{all};
 ghost use Rattle.grid.specs.Grid.{is_digit};
-ghost use Rattle.grid.specs.Completion.{times, is_full, keeps_givens, each_once, completion_call};
+ghost use Rattle.grid.specs.Completion.{times, Legal, is_full, keeps_givens, each_once, is_legal, completion_call};
+ghost use Rattle.grid.specs.Refusals.{first_broken, grid_rules};
 
 use super::{Refusal, house_cell, keyed};
 
@@ -67,11 +69,22 @@ fn each_once(candidate: &[u8]) -> bool
     (0..27).all(|house| house_once(candidate, house))
 }
 
-// Whether the candidate is a legal completion of the grid, where the keyer's check accepts the grid.
-#[tactic(auto, using(crate::proofs::Completion::full_long), unfolding(crate::specs::Completion::completion_call, crate::specs::Completion::is_legal))]
+// Whether the candidate is a legal completion of the grid.
+#[tactic(auto, using(crate::proofs::Completion::full_long), unfolding(crate::specs::Completion::is_legal))]
+fn is_legal(grid: &[u8; 81], candidate: &[u8]) -> bool
+    ensures { result ≡ is_legal grid.now candidate.now }
+{
+    is_full(candidate) && keeps_givens(grid, candidate) && each_once(candidate)
+}
+
+/// Whether the candidate is a legal completion of the grid, where the keyer's check accepts the grid. A candidate of any length is tested: one that is
+/// not 81 digits is none.
+#[tactic(auto, unfolding(crate::specs::Completion::completion_call))]
 pub fn is_completion(grid: &[u8], candidate: &[u8]) -> Result<bool, Refusal>
-    ensures { result ≡ completion_call grid.now candidate.now }
+    ensures exact { result ≡ completion_call grid.now candidate.now }
+    ensures refused { result_err result ≡ first_broken (grid_rules grid.now) }
+    ensures legal { IfOk result (λ answer. IsTrue answer ↔ Legal grid.now candidate.now) }
 {
     let grid = keyed(grid)?;
-    Ok(is_full(candidate) && keeps_givens(grid, candidate) && each_once(candidate))
+    Ok(is_legal(grid, candidate))
 }

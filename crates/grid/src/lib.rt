@@ -8,10 +8,11 @@
 //     legal          the test of a legal completion
 #![tactic(auto)]
 
-ghost use Rattle.std.specs.Prelude.{◌≡◌, ◌<◌, Ok, Err, MatchResult};
+ghost use Rattle.std.specs.Prelude.{◌≡◌, ◌<◌, ◌↔◌, Ok, Err, IsOk, MatchResult};
+ghost use Rattle.std.specs.Result.{result_err};
 ghost use Rattle.grid.specs.Grid.{has_meaning};
 ghost use Rattle.grid.specs.House.{cell_of};
-ghost use Rattle.grid.specs.Refusals.{number_of, named_place, first_bad, bytes_check, grid_check};
+ghost use Rattle.grid.specs.Refusals.{number_of, named_place, first_broken, first_bad, grid_rules, IsGrid, bytes_check, grid_check};
 
 pub mod legal;
 
@@ -125,9 +126,12 @@ pub fn keyed(bytes: &[u8]) -> Result<&[u8; 81], Refusal>
     Ok(grid)
 }
 
-// The keyer's check of a grid.
+// The keyer's check of a grid: 11 where it is not 81 bytes long, 12 at the first byte of no meaning.
+#[tactic(auto, using(crate::proofs::Checks::grid_broken))]
 pub fn check_grid(grid: &[u8]) -> Result<(), Refusal>
-    ensures { result ≡ grid_check grid.now }
+    ensures exact { result ≡ grid_check grid.now }
+    ensures refused { result_err result ≡ first_broken (grid_rules grid.now) }
+    ensures accepted { IsOk result ↔ IsGrid grid.now }
 {
     keyed(grid)?;
     Ok(())
