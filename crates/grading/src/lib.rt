@@ -15,7 +15,7 @@ use grid::{Refusal, keyed};
 use inference::job::run_with;
 use orders::order::Order;
 use orders::technique::Technique;
-use trials::trial::Outcome;
+
 
 // How a grading ends: the grid has no legal completion, or several; the weakest technique that finishes it; none does; or the ceiling stops
 // one.

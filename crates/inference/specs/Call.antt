@@ -12,8 +12,8 @@ use Rattle.orders.specs.Technique.{technique_of}
 use Rattle.orders.specs.declared.technique.Technique.{Technique}
 use Rattle.trials.specs.Steps.{end}
 use Rattle.trials.specs.declared.trial.End.{End}
-use Rattle.trials.specs.declared.trial.Outcome.{Outcome}
-use Rattle.trials.specs.declared.trial.Outcome.TheVariants.{Solved, Open, Stopped, Contradiction}
+use Rattle.closure.specs.declared.Outcome.{Outcome}
+use Rattle.closure.specs.declared.Outcome.TheVariants.{Solved, Open, Stopped, Contradiction}
 
 -- what a job call gives back: the job's end or a refusal, and the lent marks at its return
 abbrev pub Given : Type 0

@@ -8,7 +8,7 @@ use grid::{Refusal, keyed};
 use orders::order::Order;
 use orders::technique::Technique;
 use propagation::close::close_givens;
-use trials::trial::{End, Job, Outcome};
+use trials::trial::{End, Job};
 use worklist::acting::Worklist;
 
 // The end of a job, and the marks of its state, which after a contradiction mean nothing.
