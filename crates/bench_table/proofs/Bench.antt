@@ -80,7 +80,7 @@ blank_end ceiling = cond (leb 1458 ceiling) (opened blank 1458) (stopped blank c
 
 blank_job : (ceiling : ℕ) (order : List ℤ) → order_check order ≡ Ok tt → job_end (clauses_of Minimal) ceiling true order (givens dots) ≡ blank_end ceiling
 blank_job ceiling order h =
-    rw (dots_givens, quiet_job (clauses_of Minimal) (well_formed Minimal) (possible Minimal) ceiling order (accepted_literal order h), (accepted_order order h).0)
+    rw (dots_givens, quiet_job (clauses_of Minimal) (well_formed Minimal) (possible Minimal) ceiling order (accepted_literal order h), (accepted_order order h).long)
     refl
 
 blank_holds : (ceiling outcome count : ℕ) → outcome_of (blank_end ceiling) ≡ outcome → count_of (blank_end ceiling) ≡ count → Holds (blank_row ceiling outcome count)

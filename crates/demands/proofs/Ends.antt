@@ -35,11 +35,11 @@ use Rattle.demands.proofs.Checks.{same_answer}
 module _ (o : List ℤ) (e : order_check o ≡ Ok tt) where
   -- an order that is accepted has no literal twice,
   accepted_once : NoneTwice o
-  accepted_once i j x y q = let a = accepted_order o e in a.2 i j x (omega (arith, a.0)) q
+  accepted_once = (accepted_order o e).once
 
   -- and just the literals
   accepted_covers : (l : ℤ) → Literal l ↔ Memᴰ l o
-  accepted_covers = order_covers o (accepted_order o e).0 (accepted_literal o e) accepted_once
+  accepted_covers = order_covers o (accepted_order o e).long (accepted_literal o e) accepted_once
 
   -- a job ends as it should: where its givens leave at most u variables undecided, it makes at most u (u + 1) trials
   pub end_ok : (t : Technique) (g : List ℕ) (c u : ℕ) → u ≤ 729 → ((m : List ℕ) → Holds (IsGiven g) (has m) → 729 ≤ u + decided m)
