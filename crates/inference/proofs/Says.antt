@@ -34,7 +34,7 @@ use Rattle.orders.specs.Order.{order_check}
 use Rattle.orders.specs.declared.technique.Technique.{Technique}
 use Rattle.orders.proofs.Orders.{accepted_order, accepted_literal}
 use Rattle.inference.specs.Call.{job_end_of}
-use Rattle.inference.specs.Job.{RulesOf, IsGiven, AllDecided, SaysMarks, SaysClosure, MarksOnly, SaysCompletions, SaysTrials, JobSays}
+use Rattle.inference.specs.Job.{RulesOf, IsGiven, AllDecided, SaysMarks, SaysClosure, MarksOnly, SaysCompletions, SaysTrials, JobSays, Tells}
 use Rattle.inference.proofs.MarkBytes.{full_iff, full_mark, each_low}
 
 module _ (o : List ℤ) (e : order_check o ≡ Ok tt) where
@@ -169,3 +169,7 @@ module _ (t : Technique) (g : List ℕ) (o : List ℤ) (c : ℕ) (accepted : ord
 
   pub says : JobSays t g o c (outcome_of e) (count_of e) (marks_of e)
   says = record { marks = says_marks; closure = says_closure; completions = says_completions; trials = says_trials }
+
+  -- and so do the numbers and marks by which its end is told
+  pub tells_says : (a n : ℕ) (m : List ℕ) → Tells e a n m → JobSays t g o c a n m
+  tells_says a n m k = rw (← k.outcome_is, ← k.count_is, ← k.marks_are) says

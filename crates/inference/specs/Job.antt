@@ -7,7 +7,7 @@ use Rattle.clauses.specs.Models.{givens, truth_of}
 use Rattle.closure.specs.Sets.{LiteralSet, Within, Least}
 use Rattle.closure.specs.Closure.{Rules, Contradiction}
 use Rattle.closure.specs.Marks.{has, blank}
-use Rattle.closure.specs.Job.{most_trials, count_of}
+use Rattle.closure.specs.Job.{End, most_trials, count_of, marks_of, outcome_of}
 use Rattle.orders.specs.Technique.{technique_of}
 use Rattle.orders.specs.declared.technique.Technique.{Technique}
 use Rattle.inference.specs.Call.{job_end_of}
@@ -78,6 +78,12 @@ pub record JobSays (t : Technique) (g : List ℕ) (o : List ℤ) (ceiling outcom
   pub closure : SaysClosure t g outcome m
   pub completions : SaysCompletions g outcome m
   pub trials : SaysTrials t o g ceiling outcome count
+
+-- a job's end is told by the number of its outcome, its count and the marks that it leaves
+pub record Tells (e : End) (outcome count : ℕ) (m : List ℕ) : Type 0 where
+  pub outcome_is : outcome_of e ≡ outcome
+  pub count_is : count_of e ≡ count
+  pub marks_are : marks_of e ≡ m
 
 -- P holds of the technique of a number
 abbrev pub OfTechnique : ℕ → (Technique → Type 0) → Type 0
