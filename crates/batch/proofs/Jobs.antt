@@ -15,7 +15,7 @@ use Rattle.clauses.specs.Models.{givens}
 use Rattle.closure.specs.Job.{End, count_of, marks_of}
 use Rattle.closure.proofs.Ceiling.{count_below}
 use Rattle.orders.specs.declared.technique.Technique.{Technique}
-use Rattle.trials.specs.Steps.{outcome_number}
+use Rattle.closure.specs.Job.{outcome_number}
 use Rattle.inference.specs.Call.{ending, job_end_of}
 use Rattle.batch.specs.Call.{grid_at, numbers_of, Done, done_after}
 

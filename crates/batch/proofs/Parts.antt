@@ -13,7 +13,8 @@ use Rattle.closure.specs.Job as job
 use Rattle.closure.specs.Job.{count_of, marks_of}
 use Rattle.closure.proofs.Ceiling.{count_below}
 use Rattle.orders.specs.declared.technique.Technique.{Technique}
-use Rattle.trials.specs.Steps.{end, end_of, outcome_number}
+use Rattle.trials.specs.Steps.{end, end_of}
+use Rattle.closure.specs.Job.{outcome_number}
 use Rattle.trials.specs.declared.trial.End.{End}
 use Rattle.std.specs.Prelude.{Result, Ok}
 use Rattle.grid.specs.declared.Refusal.{Refusal}

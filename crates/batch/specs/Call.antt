@@ -7,7 +7,7 @@ use Rattle.closure.specs.Job.{End, count_of, marks_of}
 use Rattle.orders.specs.Order.{order_check}
 use Rattle.orders.specs.Technique.{technique_of}
 use Rattle.orders.specs.declared.technique.Technique.{Technique}
-use Rattle.trials.specs.Steps.{outcome_number}
+use Rattle.closure.specs.Job.{outcome_number}
 use Rattle.inference.specs.Call.{ending, job_end_of}
 
 -- 81 to 5,184 bytes in steps of 81: 1 to 64 grids end to end

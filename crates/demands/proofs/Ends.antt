@@ -17,16 +17,17 @@ use Rattle.clauses.proofs.Members.{given_literal}
 use Rattle.closure.specs.Sets.{Holds}
 use Rattle.closure.specs.Marks.{has, decided}
 use Rattle.closure.specs.Job.{End, solved, opened, stopped, contradiction, count_of, marks_of, outcome_of}
-use Rattle.closure.proofs.Clauses.{NoneTwice}
+use Rattle.closure.specs.Laws.{NoneTwice}
 use Rattle.closure.proofs.Job.{JobOk, job_ok}
 use Rattle.closure.proofs.Order.{order_covers}
 use Rattle.closure.proofs.ClauseSets.{well_formed}
 use Rattle.orders.specs.Order.{order_check}
 use Rattle.orders.specs.declared.technique.Technique.{Technique}
 use Rattle.orders.proofs.Orders.{accepted_order, accepted_literal}
-use Rattle.trials.specs.Steps.{end, outcome_number}
-use Rattle.trials.specs.declared.trial.Outcome.{Outcome}
-use Rattle.trials.specs.declared.trial.Outcome.TheVariants.{Solved, Open, Stopped, Contradiction}
+use Rattle.trials.specs.Steps.{end}
+use Rattle.closure.specs.Job.{outcome_number}
+use Rattle.closure.specs.declared.Outcome.{Outcome}
+use Rattle.closure.specs.declared.Outcome.TheVariants.{Solved, Open, Stopped, Contradiction}
 use Rattle.inference.specs.Call.{ending, job_end_of, job_of}
 use Rattle.demands.specs.Jobs.{Ran, RulesOf, IsGiven}
 use Rattle.demands.proofs.Checks.{same_answer}

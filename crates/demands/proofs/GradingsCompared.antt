@@ -19,7 +19,7 @@ use Rattle.closure.specs.Job.{End, solved, opened, stopped, contradiction, outco
 use Rattle.orders.specs.Technique as technique
 use Rattle.orders.specs.Technique.{SetWithin}
 use Rattle.orders.specs.declared.technique.Technique.{Technique}
-use Rattle.trials.specs.declared.trial.Outcome.TheVariants.{Solved, Stopped}
+use Rattle.closure.specs.declared.Outcome.TheVariants.{Solved, Stopped}
 use Rattle.completions.specs.Completions.{Rising, completions}
 use Rattle.completions.proofs.Completions.{completions_in_order}
 use Rattle.grading.specs.Grade.{number_of, rating, ladder, after_job, rate_from, grade_by, grade_of}

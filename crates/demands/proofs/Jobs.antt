@@ -24,9 +24,9 @@ use Rattle.closure.specs.Job.{is_full, End, solved, opened, stopped, contradicti
 use Rattle.closure.proofs.ClauseSets.{well_formed}
 use Rattle.closure.proofs.Compare.{end_within, end_contradiction, end_closure}
 use Rattle.closure.proofs.Solved.{truth_in, solved_only, solved_clauses, solved_givens, contradiction_none}
-use Rattle.trials.specs.Steps.{outcome_number}
+use Rattle.closure.specs.Job.{outcome_number}
 use Rattle.demands.specs.Jobs.{Ran, IsStopped, RulesOf, IsGiven, ByClosure, AllDecided, MarksOnly, Answers, Counts}
-use Rattle.trials.specs.declared.trial.Outcome.TheVariants.{Solved, Stopped, Contradiction}
+use Rattle.closure.specs.declared.Outcome.TheVariants.{Solved, Stopped, Contradiction}
 use Rattle.orders.specs.declared.technique.Technique.{Technique}
 use Rattle.demands.proofs.Ends.{end_of, ran_ended, outcome_iff}
 use Rattle.demands.proofs.MarkBytes.{full_iff, full_mark}

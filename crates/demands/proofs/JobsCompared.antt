@@ -17,7 +17,7 @@ use Rattle.closure.proofs.Closure.{rules_stronger}
 use Rattle.closure.proofs.Compare.{marks_carry, contradiction_carries}
 use Rattle.demands.specs.Jobs.{IsContradiction, RulesOf}
 use Rattle.demands.specs.DemandThree.{HasGivens, SameMarks, OfJobs}
-use Rattle.trials.specs.declared.trial.Outcome.TheVariants.{Stopped, Contradiction}
+use Rattle.closure.specs.declared.Outcome.TheVariants.{Stopped, Contradiction}
 use Rattle.orders.proofs.Techniques.{set_within}
 use Rattle.demands.proofs.Ends.{end_of, ran_ended, outcome_iff}
 use Rattle.demands.proofs.MarkBytes.{marks_same}

@@ -2,7 +2,7 @@
 use Rattle.std.specs.Prelude.{◌≡◌, List, ℕ, ◌+◌, ◌*◌, ◌-◌, ◌≤◌, ◌<◌, ℤ, length, get_or, take, drop, Ok}
 use Rattle.grid.specs.Counting.{total}
 use Rattle.orders.specs.Technique.{technique_of}
-use Rattle.trials.specs.Steps.{outcome_number}
+use Rattle.closure.specs.Job.{outcome_number}
 use Rattle.batch.specs.Call.{grids_in, grid_at, batch_call}
 use Rattle.demands.specs.Jobs.{Ran}
 

@@ -13,8 +13,8 @@ use Rattle.orders.specs.Order.{order_check, default_ceiling}
 use Rattle.orders.specs.Technique.{technique_of}
 use Rattle.orders.specs.declared.technique.Technique.{Technique}
 use Rattle.trials.specs.Steps.{end}
-use Rattle.trials.specs.declared.trial.Outcome.{Outcome}
-use Rattle.trials.specs.declared.trial.Outcome.TheVariants.{Solved, Stopped, Contradiction}
+use Rattle.closure.specs.declared.Outcome.{Outcome}
+use Rattle.closure.specs.declared.Outcome.TheVariants.{Solved, Stopped, Contradiction}
 use Rattle.inference.specs.Call.{job_of, job_call}
 
 -- A job that is not refused: what it was given, and what it gave back. A job call makes one, and each job of a batch is one.

@@ -61,6 +61,12 @@ module _ {G : Type 0} (refused : Refusal → G) where
     checked_first (Ok a) k xs ys e next = next a refl ∙ sym (broken_after xs ys (sym e))
     checked_first (Err f) k xs ys e next = tells f ∙ sym (broken_before xs ys f (sym e))
 
+    -- where it is the last, those are all
+    pub last_first : {A : Type 0} (x : Result A Refusal) (k : A → G) (xs : List (Option Refusal)) → result_err x ≡ first_broken xs
+        → ((a : A) → x ≡ Ok a → told (k a) ≡ None) → told (on_accepted x refused k) ≡ first_broken xs
+    last_first (Ok a) k xs e next = next a refl ∙ e
+    last_first (Err f) k xs e next = tells f ∙ e
+
 -- the keyer's checks
 pub bytes_broken : (bytes : List ℕ) → result_err (bytes_check bytes) ≡ bytes_rule bytes
 unfolding bytes_check

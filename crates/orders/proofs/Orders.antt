@@ -23,7 +23,7 @@ use Rattle.clauses.specs.Clauses.{range, over}
 use Rattle.clauses.specs.Literal.{Literal, is_literal}
 use Rattle.clauses.proofs.Signed.{literal_iff}
 use Rattle.clauses.proofs.Members.{place_of, member_at}
-use Rattle.closure.proofs.Clauses.{NoneTwice}
+use Rattle.closure.specs.Laws.{NoneTwice}
 use Rattle.closure.proofs.Order.{order_covers}
 use Rattle.orders.specs.Order.{default_order, first_no_literal, same, repeats, first_repeat, order_check, Literals, EachOnce}
 use Rattle.orders.specs.Place.{table_place}

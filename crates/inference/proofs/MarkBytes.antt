@@ -5,7 +5,7 @@ use mathlib.Core.Path.{◌≡◌, refl, sym, ◌∙◌}
 use mathlib.Core.Logic.{◌⊎◌, inl, inr, ⊎_elim, ◌↔◌}
 use mathlib.Core.Bool.{cond}
 use mathlib.Core.List.{List, [], ◌∷◌}
-use Prim.Native.Nat.{ℕ, zero, suc, ◌<◌}
+use Prim.Native.Nat.{ℕ, zero, suc, ◌≤◌, ◌<◌}
 use native.Mathlib.Decide.{ℕ_discrete}
 use native.Mathlib.Omega.{arith}
 use lib.Dec.{T, eqb}
@@ -13,7 +13,7 @@ use lib.IntN.{ℤ, pos, negsuc}
 use Rattle.grid.proofs.Completion.{eq_iff}
 use Rattle.closure.specs.Marks.{has, decided_in, decided, IsMarks}
 use Rattle.closure.proofs.Marks.{decided_total}
-use Rattle.demands.specs.Jobs.{mark_at, AllDecided}
+use Rattle.inference.specs.Job.{mark_at, AllDecided}
 
 -- the mark is true or false
 abbrev Marked : List ℕ → ℕ → Type 0
@@ -21,6 +21,10 @@ Marked m p = (mark_at m p ≡ 1) ⊎ (mark_at m p ≡ 2)
 
 marked : (m : List ℕ) → IsMarks m → (p : ℕ) → (mark_at m p ≡ 0 → ⊥) → Marked m p
 marked m i p some = elim (ℕ_discrete (mark_at m p) 1) [ yes e ↦ inl e | no n ↦ inr (omega (arith, i.small p, some)) ]
+
+-- each mark is 0, 1 or 2
+pub each_low : (m : List ℕ) → IsMarks m → (p : ℕ) → mark_at m p ≤ 2
+each_low m i p = i.small p
 
 full_marked : (m : List ℕ) → decided m ≡ 729 → (p : ℕ) → p < 729 → Marked m p
 unfolding has
