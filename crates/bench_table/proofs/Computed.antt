@@ -13,7 +13,7 @@ use lib.IntN.{ℤ}
 use lib.ListN.{get_or}
 use Rattle.grid.specs.Grid.{is_digit, digit_of}
 use Rattle.grid.proofs.Table.{and_iff}
-use Rattle.clauses.specs.Clauses.{F1, F2, F3, F4, F5, F6, F7, F8, F9, minimal, extended, clauses_of}
+use Rattle.clauses.specs.Clauses.{F1, F2, F3, F4, F5, F6, F7, F8, F9, families, minimal, extended, clauses_of}
 use Rattle.clauses.specs.Models.{givens}
 use Rattle.closure.specs.Marks.{has, put, mark, decided, decided_in, blank}
 use Rattle.closure.specs.Propagation.{Answer, clash, closed, bind, remaining, unit_closure, join}
@@ -59,7 +59,7 @@ quick_end_lem r order = ap (start (clauses_of r.set) r.ceiling r.trials order) (
 
 -- every row's test passes; all that its job opens is opened here
 unfoldable rows_test : List Row → List ℤ → Bool
-unfolding quick_sweeps givens is_digit digit_of clauses_of minimal extended F1 F2 F3 F4 F5 F6 F7 F8 F9
+unfolding quick_sweeps givens is_digit digit_of clauses_of families minimal extended F1 F2 F3 F4 F5 F6 F7 F8 F9
     has put mark decided_in remaining join corner ones fives no_nine
 rows_test [] order = true
 rows_test (r ∷ rs) order = expected_test r (quick_end r order) && rows_test rs order

@@ -6,7 +6,6 @@ pub mod Batches
 pub mod Jobs
 pub mod JobsCompared
 pub mod GradeCalls
-pub mod Reports
 pub mod WriteNothing
 pub mod SameGrid
 pub mod GradingsCompared

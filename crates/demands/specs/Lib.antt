@@ -1,7 +1,6 @@
 pub mod Jobs
 pub mod Batches
 pub mod WriteNothing
-pub mod Searches
 pub mod SameGrid
 pub mod Gradings
 pub mod DemandThree
