@@ -12,7 +12,7 @@ use Rattle.std.specs.Result.{result_err}
 use Rattle.grid.specs.Refusals.{rule, first_broken, bytes_rule, bytes_check}
 use Rattle.grid.specs.declared.Refusal.{Refusal}
 use Rattle.grid.specs.declared.Refusal.TheVariants.{MarksLength, BatchLength, AnswersLength}
-use Rattle.grid.proofs.Checks.{checked, checked_first, last_first, bytes_broken}
+use Rattle.grid.proofs.Checks.{checked, checked_first, last_first, no_answer, bytes_broken}
 use Rattle.orders.specs.Order.{order_rules, order_check}
 use Rattle.orders.specs.Technique.{technique_rule, technique_of}
 use Rattle.orders.specs.declared.technique.Technique.{Technique}
@@ -51,28 +51,29 @@ module _ (g : List ℕ) (n : ℕ) (o : List ℤ) (c : ℕ) (m a : List ℕ) wher
       last_first (refused m a) told (λ f. refl) (order_check o) _ (order_rules o) (order_broken o) λ w order. refl
 
   -- what holds of a refusal and of what a batch gives back holds of the call
-  by_checks : (P : Given → Type 0) → ((f : Refusal) → P (refused m a f)) → ((t : Technique) → technique_of n ≡ Ok t → order_check o ≡ Ok tt → P (ran (jobs_of t o g c)))
+  by_checks : (P : Given → Type 0) → ((f : Refusal) → P (refused m a f)) 
+      → (lent_check (length g) (length m) (length a) ≡ Ok tt → bytes_check g ≡ Ok tt → (t : Technique) → technique_of n ≡ Ok t → order_check o ≡ Ok tt → P (ran (jobs_of t o g c)))
       → P (batch_call g n o c m a)
   unfolding batch_call
   by_checks P refuses gives =
       checked (refused m a) P refuses (lent_check (length g) (length m) (length a)) _ λ u lent.
       checked (refused m a) P refuses (bytes_check g) _ λ v bytes.
       checked (refused m a) P refuses (technique_of n) _ λ t known.
-      checked (refused m a) P refuses (order_check o) _ λ w order. gives t known order
+      checked (refused m a) P refuses (order_check o) _ λ w order. gives lent bytes t known order
 
   -- what was lent stays
   abbrev pub Stays : Given → Type 0
   Stays y = OnErr y.0 ((y.1 ≡ m) × (y.2 ≡ a))
 
   batch_stays : Stays (batch_call g n o c m a)
-  batch_stays = by_checks Stays (λ f. (refl, refl)) (λ t known order. tt)
+  batch_stays = by_checks Stays (λ f. (refl, refl)) (λ lent bytes t known order. tt)
 
   -- the batch says what it should
   abbrev pub Answers : Given → Type 0
   Answers y = OnOk y.0 (OfTechnique n (λ t. BatchSays t g o c y.1 y.2))
 
   batch_answers : Answers (batch_call g n o c m a)
-  batch_answers = by_checks Answers (λ f. tt) (λ t known order. rw known (says t o g c order))
+  batch_answers = by_checks Answers (λ f. tt) (λ lent bytes t known order. rw known (says t o g c order))
 
   -- so of what gives back what the call does
   module _ (r : Result (Unit {0}) Refusal) (m' a' : List ℕ) (e : (r, m', a') ≡ batch_call g n o c m a) where
@@ -84,3 +85,23 @@ module _ (g : List ℕ) (n : ℕ) (o : List ℤ) (c : ℕ) (m a : List ℕ) wher
 
     pub answers_so : Answers (r, m', a')
     answers_so = subst Answers (sym e) batch_answers
+
+  -- a call that is not refused has run its jobs
+  pub record Ran (m' a' : List ℕ) : Type 0 where
+    pub lent : lent_check (length g) (length m) (length a) ≡ Ok tt
+    pub bytes : bytes_check g ≡ Ok tt
+    pub technique : Technique
+    pub known : technique_of n ≡ Ok technique
+    pub order : order_check o ≡ Ok tt
+    pub says : BatchSays technique g o c m' a'
+
+  pub call_ran : (m' a' : List ℕ) → batch_call g n o c m a ≡ (Ok tt, m', a') → Ran m' a'
+  call_ran m' a' = by_checks (λ y. y ≡ (Ok tt, m', a') → Ran m' a') (λ f q. no_answer (ap (λ y. y.0) q)) (λ lent bytes t known order q.
+      record {
+        lent = lent;
+        bytes = bytes;
+        technique = t;
+        known = known;
+        order = order;
+        says = rw (← ap (λ y. y.1) q, ← ap (λ y. y.2) q) (says t o g c order);
+      })

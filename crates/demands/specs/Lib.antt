@@ -1,7 +1,2 @@
-pub mod Jobs
-pub mod Batches
-pub mod WriteNothing
+pub mod Comparison
 pub mod SameGrid
-pub mod Gradings
-pub mod DemandThree
-pub mod NeverStopped

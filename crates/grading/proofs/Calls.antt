@@ -11,7 +11,7 @@ use Rattle.std.specs.Result.{result_err}
 use Rattle.grid.specs.Refusals.{first_broken, grid_rules, grid_check}
 use Rattle.grid.specs.declared.Refusal.{Refusal}
 use Rattle.grid.specs.declared.Refusal.TheVariants.{BufferLength}
-use Rattle.grid.proofs.Checks.{tested, checked, tested_first, checked_first, last_first, grid_broken}
+use Rattle.grid.proofs.Checks.{tested, checked, tested_first, checked_first, last_first, no_answer, grid_broken}
 use Rattle.orders.specs.Order.{order_rules, order_check}
 use Rattle.orders.proofs.Rules.{order_broken}
 use Rattle.completions.specs.Completions.{completions}
@@ -61,7 +61,7 @@ module _ (g : List ℕ) (o : List ℤ) (c : ℕ) (b : List ℕ) where
       by_list (x ∷ []) = tt
       by_list (x ∷ y ∷ bs) = tt
 
-  grade_answers : Answers g o c (grade_call g o c b)
+  pub grade_answers : Answers g o c (grade_call g o c b)
   grade_answers = by_checks (Answers g o c) (λ f. tt) (says g o c)
 
   -- so of what gives back what the call does
@@ -74,3 +74,7 @@ module _ (g : List ℕ) (o : List ℤ) (c : ℕ) (b : List ℕ) where
 
     pub answers_so : Answers g o c (r, b')
     answers_so = subst (Answers g o c) (sym e) grade_answers
+
+  -- a call that is not refused has graded the grid
+  pub call_graded : (r : Rating) (b' : List ℕ) → grade_call g o c b ≡ (Ok r, b') → (order_check o ≡ Ok tt) × (grade_of g o c ≡ (Ok r, b'))
+  call_graded r b' = by_checks (λ y. y ≡ (Ok r, b') → (order_check o ≡ Ok tt) × (grade_of g o c ≡ (Ok r, b'))) (λ f q. no_answer (ap (λ y. y.0) q)) (λ order q. (order, q))

@@ -276,10 +276,10 @@ module _ (g : List ℕ) where
       let m = (completions_in_order g).members in
       ((m b).0 (subst (Memᴰ b) (sym e) (Memᴰ.head refl)), λ d l. Memᴰ.eq_of_singleton (subst (Memᴰ d) e ((m d).1 l)))
 
-  none_of_list : completions g ≡ [] → (d : List ℕ) → Legal g d → ⊥
+  pub none_of_list : completions g ≡ [] → (d : List ℕ) → Legal g d → ⊥
   none_of_list e d l = Memᴰ.not-nil (subst (Memᴰ d) e (((completions_in_order g).members d).1 l))
 
-  several_of_list : (a b : List ℕ) (bs : List (List ℕ)) → completions g ≡ a ∷ b ∷ bs → HasSeveral g
+  pub several_of_list : (a b : List ℕ) (bs : List (List ℕ)) → completions g ≡ a ∷ b ∷ bs → HasSeveral g
   several_of_list a b bs e =
       let i = completions_in_order g in
       let rise : Before a b = (subst Rising e i.rising).0 b (Memᴰ.head refl) in
@@ -288,7 +288,7 @@ module _ (g : List ℕ) where
       (a, b, here, next, λ q. let w = subst (Before a) (sym q) rise in before_once a a w w)
 
 -- one and several, none and some exclude each other
-not_several : (g : List ℕ) → HasOne g → HasSeveral g → ⊥
+pub not_several : (g : List ℕ) → HasOne g → HasSeveral g → ⊥
 not_several g one w = w.4 (one.1.1 w.0 w.2 ∙ sym (one.1.1 w.1 w.3))
 
 module _ (g : List ℕ) (o : List ℤ) (c : ℕ) where

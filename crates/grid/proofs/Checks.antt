@@ -21,6 +21,13 @@ pub not_both : {A : Type 0} (r : Result A Refusal) → IsErr r → IsOk r → �
 not_both (Ok a) e o = let z : false ≡ true = e in cc
 not_both (Err f) e o = let z : false ≡ true = o in cc
 
+-- nor is an answer a refusal, and answers that are the same say the same
+pub no_answer : {A P : Type 0} {f : Refusal} {a : A} → ◌≡◌ {A = Result A Refusal} (Err f) (Ok a) → P
+no_answer e = absurd (let z : ◌≡◌ {A = ℕ} 0 1 = cc in omega arith)
+
+pub same_answer : {A : Type 0} {a b : A} → ◌≡◌ {A = Result A Refusal} (Ok a) (Ok b) → a ≡ b
+same_answer e = cc
+
 -- rules of which none is broken are passed over,
 broken_after : (xs ys : List (Option Refusal)) → first_broken xs ≡ None → first_broken (xs ++ ys) ≡ first_broken ys
 broken_after [] ys e = refl

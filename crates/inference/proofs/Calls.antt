@@ -3,6 +3,7 @@
 use mathlib.Core.Path.{◌≡◌, refl, ap, sym, subst, ◌∙◌}
 use mathlib.Core.List.{List, [], ◌∷◌}
 use Prim.Native.Nat.{ℕ}
+use borrow.Author.Tests.{eq-eqb}
 use lib.Dec.{eqb}
 use lib.IntN.{ℤ}
 use lib.ListN.{length}
@@ -11,15 +12,15 @@ use Rattle.std.specs.Result.{result_err}
 use Rattle.grid.specs.Refusals.{first_broken, grid_rules, grid_check}
 use Rattle.grid.specs.declared.Refusal.{Refusal}
 use Rattle.grid.specs.declared.Refusal.TheVariants as refusal
-use Rattle.grid.proofs.Checks.{tested, checked, tested_first, checked_first, last_first, grid_broken}
+use Rattle.grid.proofs.Checks.{tested, checked, tested_first, checked_first, last_first, no_answer, same_answer, grid_broken}
 use Rattle.closure.specs.Job.{outcome_number}
 use Rattle.orders.specs.Order.{order_rules, order_check}
 use Rattle.orders.specs.Technique.{technique_rule, technique_of}
 use Rattle.orders.specs.declared.technique.Technique.{Technique}
 use Rattle.orders.proofs.Rules.{technique_broken, order_broken}
 use Rattle.trials.specs.declared.trial.End.{End}
-use Rattle.inference.specs.Call.{Given, refused, job_rules, job_of, job_call}
-use Rattle.inference.specs.Job.{JobSays, OfTechnique}
+use Rattle.inference.specs.Call.{Given, refused, job_end_of, job_rules, job_of, job_call}
+use Rattle.inference.specs.Job.{JobSays, Tells, OfTechnique}
 use Rattle.inference.proofs.Says.{says}
 
 module _ (g : List ℕ) (n : ℕ) (o : List ℤ) (c : ℕ) (m : List ℕ) where
@@ -70,3 +71,28 @@ module _ (g : List ℕ) (n : ℕ) (o : List ℤ) (c : ℕ) (m : List ℕ) where
 
     pub answers_so : Answers (r, m')
     answers_so = subst Answers (sym e) job_answers
+
+  -- a call that is not refused has run the job of its technique, and tells its end
+  pub record Ran (e : End) (t : List ℕ) : Type 0 where
+    pub technique : Technique
+    pub known : technique_of n ≡ Ok technique
+    pub order : order_check o ≡ Ok tt
+    pub tells : Tells (job_end_of technique o g c) (outcome_number e.outcome) e.count t
+
+  pub call_ran : (e : End) (t : List ℕ) → job_call g n o c m ≡ (Ok e, t) → Ran e t
+  unfolding job_of
+  call_ran e t =
+      by_checks (λ y. y ≡ (Ok e, t) → Ran e t) (λ f q. no_answer (ap (λ y. y.0) q)) (λ s known order q. (
+          let same = same_answer (ap (λ y. y.0) q) in
+          record {
+            technique = s;
+            known = known;
+            order = order;
+            tells = record { outcome_is = ap (λ x. outcome_number x.outcome) same; count_is = ap (λ x. x.count) same; marks_are = ap (λ y. y.1) q };
+          }))
+
+-- the job of accepted inputs is what the call gives, whatever marks are lent
+pub call_gives : (g : List ℕ) (n : ℕ) (o : List ℤ) (c : ℕ) (m : List ℕ) (t : Technique) → length m ≡ 729 → grid_check g ≡ Ok tt → technique_of n ≡ Ok t → order_check o ≡ Ok tt
+    → job_call g n o c m ≡ job_of t g o c
+unfolding job_call
+call_gives g n o c m t long grid known order = rw (eq-eqb (length m) 729 long, grid, known, order) refl

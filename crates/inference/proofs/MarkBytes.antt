@@ -19,8 +19,8 @@ use Rattle.inference.specs.Job.{mark_at, AllDecided}
 abbrev Marked : List ℕ → ℕ → Type 0
 Marked m p = (mark_at m p ≡ 1) ⊎ (mark_at m p ≡ 2)
 
-marked : (m : List ℕ) → IsMarks m → (p : ℕ) → (mark_at m p ≡ 0 → ⊥) → Marked m p
-marked m i p some = elim (ℕ_discrete (mark_at m p) 1) [ yes e ↦ inl e | no n ↦ inr (omega (arith, i.small p, some)) ]
+marked : (m : List ℕ) (p : ℕ) → mark_at m p ≤ 2 → (mark_at m p ≡ 0 → ⊥) → Marked m p
+marked m p low some = elim (ℕ_discrete (mark_at m p) 1) [ yes e ↦ inl e | no n ↦ inr (omega (arith, low, some)) ]
 
 -- each mark is 0, 1 or 2
 pub each_low : (m : List ℕ) → IsMarks m → (p : ℕ) → mark_at m p ≤ 2
@@ -43,7 +43,7 @@ marked_full (suc n) (b ∷ m) f =
 pub full_iff : (m : List ℕ) → IsMarks m → (decided m ≡ 729) ↔ AllDecided m
 full_iff m i = (
   (λ e p h z. ⊎_elim (λ q. omega arith) (λ q. omega arith) (full_marked m e p h)),
-  λ f. marked_full 729 m (λ p h. marked m i p (f p h)),
+  λ f. marked_full 729 m (λ p h. marked m p (i.small p) (f p h)),
 )
 
 -- there a mark tells which of its variable's literals is marked
@@ -52,9 +52,10 @@ unfolding has
 full_mark m e p h = ⊎_elim (λ q. rw q) (λ q. rw q) (full_marked m e p h)
 
 -- marks of which all literals are marked again are the same there
-pub marks_same : (m n : List ℕ) → IsMarks m → ((l : ℤ) → T (has m l) → T (has n l)) → (p : ℕ) → p < 729 → (mark_at m p ≡ 0 → ⊥) → mark_at n p ≡ mark_at m p
+pub marks_same : (m n : List ℕ) → ((p : ℕ) → p < 729 → mark_at m p ≤ 2) → ((l : ℤ) → T (has m l) → T (has n l)) → (p : ℕ) → p < 729 → (mark_at m p ≡ 0 → ⊥)
+    → mark_at n p ≡ mark_at m p
 unfolding has
-marks_same m n i sub p h some = ⊎_elim (again 1 (sub (pos (suc p)))) (again 2 (sub (negsuc p))) (marked m i p some)
+marks_same m n low sub p h some = ⊎_elim (again 1 (sub (pos (suc p)))) (again 2 (sub (negsuc p))) (marked m p (low p h) some)
   where
     again : (b : ℕ) → (T (eqb (mark_at m p) b) → T (eqb (mark_at n p) b)) → mark_at m p ≡ b → mark_at n p ≡ mark_at m p
     again b t e = (eq_iff (mark_at n p) b).0 (t ((eq_iff (mark_at m p) b).1 e)) ∙ sym e
