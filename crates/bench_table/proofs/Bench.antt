@@ -29,7 +29,7 @@ use Rattle.closure.specs.Job.{End, opened, stopped, job_end, outcome_of, count_o
 use Rattle.closure.proofs.ClauseSets.{well_formed}
 use Rattle.orders.specs.Order.{order_check}
 use Rattle.orders.proofs.Orders.{accepted_order, accepted_literal}
-use Rattle.bench_table.specs.Bench.{Row, end_of, Expected, Holds, Every, dots, blank_row, blank_rows, full_rows, table}
+use Rattle.bench_table.specs.Bench.{Row, end_of, Expected, Holds, Every, dots, blank_row, blank_rows, full_rows, BenchTable}
 use Rattle.bench_table.proofs.Computed.{none, ◌also◌, corner_rows_lem, ones_rows_lem, fives_rows_lem, no_nine_rows_lem}
 use Rattle.bench_table.proofs.FullGrid.{full_solved}
 use Rattle.bench_table.proofs.Quiet.{Possible, quiet_job}
@@ -111,5 +111,5 @@ full_rows_lem ceiling =
 
 infixr 4 ◌then◌
 -- every row of the table holds
-pub bench : (ceiling : ℕ) → Every (table ceiling)
+pub bench : BenchTable
 bench c = blank_rows_lem then corner_rows_lem c then ones_rows_lem c then fives_rows_lem c then no_nine_rows_lem c then full_rows_lem c

@@ -47,15 +47,15 @@ marks_are zeros e t = contradiction_zeros e (eqb→eq (outcome_of e) 4 t)
 
 -- the row's job by quick sweeps
 abbrev quick_end : Row → List ℤ → End
-quick_end r order = start (clauses_of r.set) r.ceiling r.trials order (bind (join blank (givens r.grid)) (quick_sweeps 730 (clauses_of r.set)))
+quick_end r order = start (clauses_of r.clause_set) r.ceiling r.trials order (bind (join blank (givens r.grid)) (quick_sweeps 730 (clauses_of r.clause_set)))
 
 quick_end_lem : (r : Row) (order : List ℤ) → quick_end r order ≡ end_of r order
 unfolding end_of job_end unit_closure
-quick_end_lem r order = ap (start (clauses_of r.set) r.ceiling r.trials order) (same (join blank (givens r.grid)))
+quick_end_lem r order = ap (start (clauses_of r.clause_set) r.ceiling r.trials order) (same (join blank (givens r.grid)))
   where
-    same : (a : Answer) → bind a (quick_sweeps 730 (clauses_of r.set)) ≡ bind a (unit_closure (clauses_of r.set))
+    same : (a : Answer) → bind a (quick_sweeps 730 (clauses_of r.clause_set)) ≡ bind a (unit_closure (clauses_of r.clause_set))
     same clash = refl
-    same (closed m) = quick_sweeps_lem 730 (clauses_of r.set) m
+    same (closed m) = quick_sweeps_lem 730 (clauses_of r.clause_set) m
 
 -- every row's test passes; all that its job opens is opened here
 unfoldable rows_test : List Row → List ℤ → Bool
