@@ -15,7 +15,7 @@ use Rattle.clauses.specs.declared.ClauseSet.{ClauseSet}
 use Rattle.clauses.specs.declared.ClauseSet.TheVariants.{Minimal, Extended}
 use Rattle.clauses.specs.declared.Shape.{Shape}
 use Rattle.clauses.proofs.Members.{member_iff}
-use Rattle.orders.specs.Technique.{is_same_or_below, SetWithin, AtLeast, technique_of, unit_minimal, unit_extended, trials_minimal, trials_extended}
+use Rattle.orders.specs.Technique.{is_same_or_below, SetWithin, AtLeast, number_of, technique_of, unit_minimal, unit_extended, trials_minimal, trials_extended}
 use Rattle.orders.specs.declared.technique.Technique.{Technique}
 use Rattle.std.specs.Prelude.{Result, Ok, Err, IsTrue}
 use Rattle.grid.specs.declared.Refusal.{Refusal}
@@ -38,6 +38,10 @@ module _ (P : ℕ → Technique → Type 0) (one : P 1 unit_minimal) (two : P 2 
       go (no a) (no b) (no c) (no d) =
           let none : ◌≡◌ {A = Result Technique Refusal} (Err refusal.Technique) (Ok t) = rw (ne_eqb n 1 a, ne_eqb n 2 b, ne_eqb n 3 c, ne_eqb n 4 d) at e in
           let z : ◌≡◌ {A = ℕ} 0 1 = cc in absurd (omega arith)
+
+-- the technique of a number has it
+pub technique_number : (n : ℕ) (t : Technique) → technique_of n ≡ Ok t → number_of t ≡ n
+technique_number n t e = each_technique (λ n t. number_of t ≡ n) refl refl refl refl n t e
 
 holds : {A : Type 0} → A → A ↔ IsTrue true
 holds a = ((λ x. refl), λ x. a)
