@@ -23,7 +23,7 @@ pub use stream::{Failure, list};
 const HEADER: [u8; 20] = *b"line verdict trials\n";
 
 // Writes a text at the start of a lent buffer, in which any line has room, and says how long it is; what is past it stays.
-#[tactic(auto, using(crate::proofs::Decimal::put_copies))]
+#[tactic(auto, using(crate::proofs::Decimal::written_copies))]
 fn write(text: &[u8], out: &mut [u8; 64]) -> usize
     requires { length text.now ≤ 64 }
     ensures { Writes text.now out.old out.new result }

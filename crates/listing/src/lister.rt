@@ -1,10 +1,10 @@
 // A listing in the making, in memory that does not grow with the input: of a line that is begun its first 82 bytes are kept, which tell the output line
 // of any longer one, and output lines wait in a buffer, to be written in large pieces.
-ghost use Rattle.std.specs.Prelude.{◌≡◌, ◌≢◌, ◌+◌, ◌≤◌, ℕ, List, [], ◌∷◌, ◌++◌, All, OnOk, OnErr};
+ghost use Rattle.std.specs.Prelude.{◌≡◌, ◌≢◌, ◌+◌, ◌≤◌, ℕ, List, [], ◌∷◌, ◌++◌, OnOk, OnErr};
 ghost use Rattle.std.specs.Io.KnownBytes.{Appends};
 ghost use Rattle.arrayvec.specs.ArrayVec.{array_vec_len};
 ghost use Rattle.listing.specs.Whole.{listing};
-ghost use Rattle.listing.specs.Stream.{AppendsFront, Advances};
+ghost use Rattle.listing.specs.Stream.{HasNoNewline, AppendsFront, Advances};
 
 use crate::{HEADER, listed};
 use arrayvec::ArrayVec;
@@ -18,7 +18,7 @@ pub(crate) struct Lister {
     // Its first 82 bytes.
     line: ArrayVec<u8, 82>,
     waiting: ArrayVec<u8, 4096>,
-    ghost unended: { All (λ b. b ≢ 10) line.items },
+    ghost unended: { HasNoNewline line.items },
 }
 
 impl Lister {
@@ -55,13 +55,16 @@ impl Lister {
         requires { byte ≢ 10 }
         ensures { (unread : List ℕ) → to_come self.old (byte ∷ unread) ≡ to_come self.new unread }
     {
-        let _ = self.line.try_push(byte);
+        if !self.line.is_full() {
+            self.line.push(byte);
+        }
     }
 
     // Ends the line, whose output line waits from here on, and begins the next.
     fn end(&mut self)
         requires { array_vec_len self.old.waiting + 64 ≤ 4096 }
-        ensures { (unread : List ℕ) → to_come self.old (10 ∷ unread) ≡ to_come self.new unread }
+        ensures listed { (unread : List ℕ) → to_come self.old (10 ∷ unread) ≡ to_come self.new unread }
+        ensures begun { self.new.line.items ≡ [] }
     {
         let text = listed(self.number, &self.line);
         self.waiting.try_extend_from_slice(&text).unwrap();
@@ -83,36 +86,49 @@ impl Lister {
         Ok(())
     }
 
+    // Takes in a byte of the input.
+    fn step<W: Write>(&mut self, writer: &mut W, byte: u8) -> io::Result<()>
+        ensures ok { OnOk result (Advances (W.contents writer.old) (W.contents writer.new)
+            (λ unread. to_come self.old (byte ∷ unread)) (to_come self.new)) }
+        ensures err { OnErr result ((unread : List ℕ) →
+            AppendsFront (W.contents writer.old) (W.contents writer.new) (to_come self.old unread)) }
+    {
+        if byte != b'\n' {
+            self.keep(byte);
+            return Ok(());
+        }
+        self.make_room(writer)?;
+        self.end();
+        Ok(())
+    }
+
     // Takes in a piece of the input, and writes what it gives.
     pub(crate) fn take<W: Write>(&mut self, writer: &mut W, piece: &[u8]) -> io::Result<()>
         ensures ok { OnOk result (Advances (W.contents writer.old) (W.contents writer.new)
             (λ unread. to_come self.old (piece.now ++ unread)) (to_come self.new)) }
+        ensures empty { OnOk result (self.new.waiting.items ≡ []) }
         ensures err { OnErr result
             (AppendsFront (W.contents writer.old) (W.contents writer.new) (to_come self.old piece.now)) }
     {
         for &byte in piece {
-            if byte == b'\n' {
-                self.make_room(writer)?;
-                self.end();
-            } else {
-                self.keep(byte);
-            }
+            self.step(writer, byte)?;
         }
         self.flush(writer)
     }
 
-    // Ends the last line, where its newline is missing, and writes what waits.
+    // Ends the last line, where its newline is missing. Nothing waits between two pieces.
     pub(crate) fn finish<W: Write>(&mut self, writer: &mut W) -> io::Result<()>
+        requires { self.old.waiting.items ≡ [] }
         ensures ok { OnOk result
             (Appends (W.contents writer.old) (W.contents writer.new) (to_come self.old [])) }
         ensures err { OnErr result
             (AppendsFront (W.contents writer.old) (W.contents writer.new) (to_come self.old [])) }
     {
-        if !self.line.is_empty() {
-            self.make_room(writer)?;
-            self.end();
+        if self.line.is_empty() {
+            return Ok(());
         }
-        self.flush(writer)
+        self.end();
+        write_all(writer, &self.waiting)
     }
 }
 

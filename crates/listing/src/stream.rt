@@ -1,8 +1,9 @@
 // A listing from a reader to a writer.
-ghost use Rattle.std.specs.Prelude.{◌≡◌, ℕ, List, ◌++◌, IfSome, IfErr, OnOk};
+ghost use Rattle.std.specs.Prelude.{◌≡◌, [], IfSome, IfOk, IfErr, OnOk, OnErr};
 ghost use Rattle.std.specs.Io.KnownBytes.{Appends, Consumes, IsAtEnd};
 ghost use Rattle.listing.specs.Whole.{listing};
-ghost use Rattle.listing.specs.Stream.{Leaves};
+ghost use Rattle.listing.specs.Stream.{AdvancesOver, Answers, AnswersFront, Leaves};
+ghost use Rattle.listing.specs.Lister.{to_come};
 
 use super::lister::Lister;
 use std::io::{self, ErrorKind, Read, Write};
@@ -16,6 +17,48 @@ pub enum Failure {
     Write(io::Error),
 }
 
+// Answers pieces of the input to its end, or until a read fails, and says then why. A read that a signal interrupts is made again.
+fn answer_pieces<R: Read, W: Write>(
+    reader: &mut R,
+    writer: &mut W,
+    lister: &mut Lister,
+) -> io::Result<io::Result<()>>
+    requires { lister.old.waiting.items ≡ [] }
+    ensures ok { OnOk result (AdvancesOver (R.remaining reader.old) (R.remaining reader.new)
+        (W.contents writer.old) (W.contents writer.new) (to_come lister.old) (to_come lister.new)) }
+    ensures empty { OnOk result (lister.new.waiting.items ≡ []) }
+    ensures end { IfOk result (λ read. OnOk read (IsAtEnd (R.remaining reader.new))) }
+    ensures err { OnErr result (AnswersFront (R.remaining reader.old) (R.remaining reader.new)
+        (W.contents writer.old) (W.contents writer.new) (to_come lister.old)) }
+{
+    let mut piece = [0; 65536];
+    // No input takes so many turns, unless signals interrupt it without end.
+    'reads: for _ in 0..u64::MAX {
+        match reader.read(&mut piece) {
+            Ok(0) => return Ok(Ok(())),
+            Ok(n) => lister.take(writer, &piece[..n])?,
+            Err(error) if error.kind() == ErrorKind::Interrupted => {}
+            Err(error) => return Ok(Err(error)),
+        }
+    }
+    Ok(Err(io::Error::from(ErrorKind::TimedOut)))
+}
+
+// Answers all of the input, or what is read before a read fails.
+fn answer_all<R: Read, W: Write>(reader: &mut R, writer: &mut W) -> io::Result<io::Result<()>>
+    ensures ok { OnOk result (Answers (R.remaining reader.old) (R.remaining reader.new)
+        (W.contents writer.old) (W.contents writer.new) listing) }
+    ensures end { IfOk result (λ read. OnOk read (IsAtEnd (R.remaining reader.new))) }
+    ensures err { OnErr result (AnswersFront (R.remaining reader.old) (R.remaining reader.new)
+        (W.contents writer.old) (W.contents writer.new) listing) }
+{
+    let mut lister = Lister::new();
+    lister.flush(writer)?;
+    let read = answer_pieces(reader, writer, &mut lister)?;
+    lister.finish(writer)?;
+    Ok(read)
+}
+
 /// Reads lines to the end of the reader, and writes their listing: the header at once, and what a piece of input gives before the next piece is read.
 /// The last line may end without a newline. Lines may be of any length and number: nothing is allocated. A call that a signal interrupts is made again.
 /// Where a read fails, a line that it cuts off is answered as far as it came.
@@ -26,26 +69,12 @@ pub fn list<R: Read, W: Write>(reader: &mut R, writer: &mut W) -> Result<(), Fai
         Appends (W.contents writer.old) (W.contents writer.new) (listing input))) }
 
     // After a failed read the listing of what was read before is written, and after a failed write a beginning of it.
-    ensures failed { IfErr result (λ failure. (input output : List ℕ)
-        × Consumes (R.remaining reader.old) (R.remaining reader.new) input
-        × Appends (W.contents writer.old) (W.contents writer.new) output
-        × Leaves failure input output) }
+    ensures failed { IfErr result (λ failure. Leaves failure (R.remaining reader.old) (R.remaining reader.new)
+        (W.contents writer.old) (W.contents writer.new)) }
 {
-    let mut lister = Lister::new();
-    lister.flush(writer).map_err(Failure::Write)?;
-    let mut piece = [0; 65536];
-    // No input takes so many turns, unless signals interrupt it without end.
-    'reads: for _ in 0..u64::MAX {
-        match reader.read(&mut piece) {
-            Ok(0) => return lister.finish(writer).map_err(Failure::Write),
-            Ok(n) => lister.take(writer, &piece[..n]).map_err(Failure::Write)?,
-            Err(error) if error.kind() == ErrorKind::Interrupted => {}
-            Err(error) => {
-                lister.finish(writer).map_err(Failure::Write)?;
-                return Err(Failure::Read(error));
-            }
-        }
+    match answer_all(reader, writer) {
+        Ok(Ok(())) => Ok(()),
+        Ok(Err(error)) => Err(Failure::Read(error)),
+        Err(error) => Err(Failure::Write(error)),
     }
-    lister.finish(writer).map_err(Failure::Write)?;
-    Err(Failure::Read(io::Error::from(ErrorKind::TimedOut)))
 }

@@ -1,0 +1,89 @@
+-- Steps one after the other: what they write is a front of what was to come before them.
+-- Assumes nothing.
+use mathlib.Core.Path.{◌≡◌, sym, ap, ◌∙◌, subst}
+use mathlib.Core.List.{List, [], ◌∷◌, ◌++◌, append_assoc}
+use Prim.Native.Nat.{ℕ, ◌+◌, ◌<◌, ◌≤◌}
+use lib.ListN.{length, get_or, drop}
+use Rattle.std.specs.Prelude.{Option}
+use Rattle.std.specs.Io.KnownBytes.{Keeps, Appends, Consumes}
+use Rattle.std.proofs.KnownBytes.{Appends-nil, Appends-trans, Consumes-trans, Consumes-kept, starts_with_rest}
+use Rattle.std.proofs.Common.{add-one, drop-cons, drop_of_length-le}
+use Rattle.std.proofs.lemmas.List.{append-nil}
+use Rattle.std.proofs.Transfers.{starts_with_of_append}
+use Rattle.listing.specs.Stream.{AppendsFront, Advances, AdvancesOver, Answers, AnswersFront}
+
+-- nothing is written
+pub stays : {f g : List ℕ → List ℕ} (a : Option (List ℕ)) → ((unread : List ℕ) → f unread ≡ g unread) → Advances a a f g
+stays a same = record { front = []; appended = Appends-nil a; rest = same }
+
+pub advances_then : {a b c : Option (List ℕ)} {f g h : List ℕ → List ℕ} → Advances a b f g → Advances b c g h → Advances a c f h
+advances_then {a} {b} {c} {f} {g} {h} p q =
+    record {
+      front = p.front ++ q.front;
+      appended = Appends-trans a b c p.front q.front p.appended q.appended;
+      rest = λ unread. p.rest unread ∙ ap (λ l. p.front ++ l) (q.rest unread) ∙ sym (append_assoc p.front q.front (h unread));
+    }
+
+pub advances_front : {a b c : Option (List ℕ)} {f g : List ℕ → List ℕ} → Advances a b f g → (unread : List ℕ) → AppendsFront b c (g unread) → AppendsFront a c (f unread)
+advances_front {a} {b} {c} {f} {g} p unread q =
+    record {
+      front = p.front ++ q.front;
+      appended = Appends-trans a b c p.front q.front p.appended q.appended;
+      begins = starts_with_of_append (f unread) (p.front ++ q.front) _
+          (p.rest unread ∙ ap (λ l. p.front ++ l) (starts_with_rest (g unread) q.front q.begins) ∙ sym (append_assoc p.front q.front _));
+    }
+
+pub advances_all : {a b : Option (List ℕ)} {f g : List ℕ → List ℕ} (c : Option (List ℕ)) → Advances a b f g → (unread : List ℕ) → Appends b c (g unread) → Appends a c (f unread)
+advances_all {a} {b} {f} {g} c p unread q = subst (Appends a c) (sym (p.rest unread)) (Appends-trans a b c p.front (g unread) p.appended q)
+
+-- a piece of input, byte by byte: its next byte,
+pub next_byte : {a b : Option (List ℕ)} (f g : List ℕ → List ℕ) (piece : List ℕ) (i : ℕ) → i < length piece
+    → Advances a b (λ unread. f (get_or piece i 0 ∷ unread)) g → Advances a b (λ unread. f (drop i piece ++ unread)) (λ unread. g (drop (i + 1) piece ++ unread))
+next_byte f g piece i within p =
+    let next : drop i piece ≡ get_or piece i 0 ∷ drop (i + 1) piece = rw add-one (drop-cons piece i 0 within) in
+    record {
+      front = p.front;
+      appended = p.appended;
+      rest = λ unread. ap (λ l. f (l ++ unread)) next ∙ p.rest (drop (i + 1) piece ++ unread);
+    }
+
+-- and its end
+pub no_more : {a b : Option (List ℕ)} {f : List ℕ → List ℕ} (g : List ℕ → List ℕ) (piece : List ℕ) (i : ℕ) → length piece ≤ i
+    → Advances a b f (λ unread. g (drop i piece ++ unread)) → Advances a b f g
+no_more g piece i end p =
+    record {
+      front = p.front;
+      appended = p.appended;
+      rest = λ unread. p.rest unread ∙ ap (λ l. p.front ++ g (l ++ unread)) (drop_of_length-le piece end);
+    }
+
+-- a piece of input that has been read and is answered,
+pub over_then : {a b c d d' : Option (List ℕ)} {f g h : List ℕ → List ℕ} (b' : Option (List ℕ)) (bs : List ℕ) → AdvancesOver a b c d f g
+    → Consumes b b' bs → Advances d d' (λ unread. g (bs ++ unread)) h → AdvancesOver a b' c d' f h
+over_then {a} {b} {c} {d} {d'} {f} {g} {h} b' bs p read q =
+    record {
+      input = p.input ++ bs;
+      read = Consumes-trans a b b' p.input bs p.read read;
+      answered = record {
+        front = p.answered.front ++ q.front;
+        appended = Appends-trans c d d' p.answered.front q.front p.answered.appended q.appended;
+        rest = λ unread. ap f (append_assoc p.input bs unread) ∙ p.answered.rest (bs ++ unread)
+            ∙ ap (λ l. p.answered.front ++ l) (q.rest unread) ∙ sym (append_assoc p.answered.front q.front (h unread));
+      };
+    }
+
+-- and none
+pub over_kept : {a b c d : Option (List ℕ)} {f g : List ℕ → List ℕ} (b' : Option (List ℕ)) → AdvancesOver a b c d f g → Keeps b b' → AdvancesOver a b' c d f g
+over_kept {a} {b} b' p same = record { input = p.input; read = Consumes-kept a b b' p.input p.read same; answered = p.answered }
+
+-- a whole input: what is written before it is read, what is written of it, and what is left to write at its end
+module _ {a b c d d' : Option (List ℕ)} {f g h : List ℕ → List ℕ} (begun : Advances c d f g) (over : AdvancesOver a b d d' g h) where
+  due : Advances c d' (λ unread. f (over.input ++ unread)) h
+  due = advances_then (record { front = begun.front; appended = begun.appended; rest = λ unread. begun.rest (over.input ++ unread) }) over.answered
+
+  pub answered_all : (e : Option (List ℕ)) → Appends d' e (h []) → Answers a b c e f
+  answered_all e last = record { input = over.input; read = over.read; answered = subst (λ l. Appends c e (f l)) (append-nil over.input) (advances_all e due [] last) }
+
+  pub answered_front : {e : Option (List ℕ)} → AppendsFront d' e (h []) → AnswersFront a b c e f
+  answered_front {e} last =
+      record { input = over.input; read = over.read; answered = subst (λ l. AppendsFront c e (f l)) (append-nil over.input) (advances_front due [] last) }
