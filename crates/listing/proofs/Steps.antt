@@ -10,17 +10,17 @@ use Rattle.std.proofs.KnownBytes.{Appends-nil, Appends-trans, Consumes-trans, Co
 use Rattle.std.proofs.Common.{add-one, drop-cons, drop_of_length-le}
 use Rattle.std.proofs.lemmas.List.{append-nil}
 use Rattle.std.proofs.Transfers.{starts_with_of_append}
-use Rattle.listing.specs.Stream.{AppendsFront, Advances, AdvancesOver, Answers, AnswersFront}
+use Rattle.listing.specs.Stream.{Reads, AppendsFront, Advances}
 
 -- nothing is written
 pub stays : {f g : List ℕ → List ℕ} (a : Option (List ℕ)) → ((unread : List ℕ) → f unread ≡ g unread) → Advances a a f g
-stays a same = record { front = []; appended = Appends-nil a; rest = same }
+stays a same = record { front = []; written = Appends-nil a; rest = same }
 
 pub advances_then : {a b c : Option (List ℕ)} {f g h : List ℕ → List ℕ} → Advances a b f g → Advances b c g h → Advances a c f h
 advances_then {a} {b} {c} {f} {g} {h} p q =
     record {
       front = p.front ++ q.front;
-      appended = Appends-trans a b c p.front q.front p.appended q.appended;
+      written = Appends-trans a b c p.front q.front p.written q.written;
       rest = λ unread. p.rest unread ∙ ap (λ l. p.front ++ l) (q.rest unread) ∙ sym (append_assoc p.front q.front (h unread));
     }
 
@@ -28,13 +28,13 @@ pub advances_front : {a b c : Option (List ℕ)} {f g : List ℕ → List ℕ} �
 advances_front {a} {b} {c} {f} {g} p unread q =
     record {
       front = p.front ++ q.front;
-      appended = Appends-trans a b c p.front q.front p.appended q.appended;
+      written = Appends-trans a b c p.front q.front p.written q.written;
       begins = starts_with_of_append (f unread) (p.front ++ q.front) _
           (p.rest unread ∙ ap (λ l. p.front ++ l) (starts_with_rest (g unread) q.front q.begins) ∙ sym (append_assoc p.front q.front _));
     }
 
 pub advances_all : {a b : Option (List ℕ)} {f g : List ℕ → List ℕ} (c : Option (List ℕ)) → Advances a b f g → (unread : List ℕ) → Appends b c (g unread) → Appends a c (f unread)
-advances_all {a} {b} {f} {g} c p unread q = subst (Appends a c) (sym (p.rest unread)) (Appends-trans a b c p.front (g unread) p.appended q)
+advances_all {a} {b} {f} {g} c p unread q = subst (Appends a c) (sym (p.rest unread)) (Appends-trans a b c p.front (g unread) p.written q)
 
 -- a piece of input, byte by byte: its next byte,
 pub next_byte : {a b : Option (List ℕ)} (f g : List ℕ → List ℕ) (piece : List ℕ) (i : ℕ) → i < length piece
@@ -43,7 +43,7 @@ next_byte f g piece i within p =
     let next : drop i piece ≡ get_or piece i 0 ∷ drop (i + 1) piece = rw add-one (drop-cons piece i 0 within) in
     record {
       front = p.front;
-      appended = p.appended;
+      written = p.written;
       rest = λ unread. ap (λ l. f (l ++ unread)) next ∙ p.rest (drop (i + 1) piece ++ unread);
     }
 
@@ -53,37 +53,29 @@ pub no_more : {a b : Option (List ℕ)} {f : List ℕ → List ℕ} (g : List �
 no_more g piece i end p =
     record {
       front = p.front;
-      appended = p.appended;
+      written = p.written;
       rest = λ unread. p.rest unread ∙ ap (λ l. p.front ++ g (l ++ unread)) (drop_of_length-le piece end);
     }
 
--- a piece of input that has been read and is answered,
-pub over_then : {a b c d d' : Option (List ℕ)} {f g h : List ℕ → List ℕ} (b' : Option (List ℕ)) (bs : List ℕ) → AdvancesOver a b c d f g
-    → Consumes b b' bs → Advances d d' (λ unread. g (bs ++ unread)) h → AdvancesOver a b' c d' f h
-over_then {a} {b} {c} {d} {d'} {f} {g} {h} b' bs p read q =
-    record {
-      input = p.input ++ bs;
-      read = Consumes-trans a b b' p.input bs p.read read;
-      answered = record {
-        front = p.answered.front ++ q.front;
-        appended = Appends-trans c d d' p.answered.front q.front p.answered.appended q.appended;
-        rest = λ unread. ap f (append_assoc p.input bs unread) ∙ p.answered.rest (bs ++ unread)
-            ∙ ap (λ l. p.answered.front ++ l) (q.rest unread) ∙ sym (append_assoc p.answered.front q.front (h unread));
-      };
-    }
+-- input that is read: a piece that is answered,
+pub piece_more : {a b c d d' : Option (List ℕ)} (f : List ℕ → List ℕ) {g h : List ℕ → List ℕ} (b' : Option (List ℕ)) (bs : List ℕ) → Reads a b (λ input. Advances c d (λ unread. f (input ++ unread)) g)
+    → Consumes b b' bs → Advances d d' (λ unread. g (bs ++ unread)) h → Reads a b' (λ input. Advances c d' (λ unread. f (input ++ unread)) h)
+piece_more {a} {b} {c} {d} {d'} f {g} {h} b' bs p given q =
+    let before : Advances c d (λ unread. f ((p.input ++ bs) ++ unread)) (λ unread. g (bs ++ unread)) =
+    record { front = p.then.front; written = p.then.written; rest = λ unread. ap f (append_assoc p.input bs unread) ∙ p.then.rest (bs ++ unread) } in
+    record { input = p.input ++ bs; given = Consumes-trans a b b' p.input bs p.given given; then = advances_then before q }
 
--- and none
-pub over_kept : {a b c d : Option (List ℕ)} {f g : List ℕ → List ℕ} (b' : Option (List ℕ)) → AdvancesOver a b c d f g → Keeps b b' → AdvancesOver a b' c d f g
-over_kept {a} {b} b' p same = record { input = p.input; read = Consumes-kept a b b' p.input p.read same; answered = p.answered }
+-- none,
+pub none_more : {a b : Option (List ℕ)} {P : List ℕ → Type 0} (b' : Option (List ℕ)) → Reads a b P → Keeps b b' → Reads a b' P
+none_more {a} {b} b' p same = record { input = p.input; given = Consumes-kept a b b' p.input p.given same; then = p.then }
 
--- a whole input: what is written before it is read, what is written of it, and what is left to write at its end
-module _ {a b c d d' : Option (List ℕ)} {f g h : List ℕ → List ℕ} (begun : Advances c d f g) (over : AdvancesOver a b d d' g h) where
+-- and all of it, which is answered at its end
+module _ {a b c d d' : Option (List ℕ)} {f g h : List ℕ → List ℕ} (begun : Advances c d f g) (over : Reads a b (λ input. Advances d d' (λ unread. g (input ++ unread)) h)) where
   due : Advances c d' (λ unread. f (over.input ++ unread)) h
-  due = advances_then (record { front = begun.front; appended = begun.appended; rest = λ unread. begun.rest (over.input ++ unread) }) over.answered
+  due = advances_then (record { front = begun.front; written = begun.written; rest = λ unread. begun.rest (over.input ++ unread) }) over.then
 
-  pub answered_all : (e : Option (List ℕ)) → Appends d' e (h []) → Answers a b c e f
-  answered_all e last = record { input = over.input; read = over.read; answered = subst (λ l. Appends c e (f l)) (append-nil over.input) (advances_all e due [] last) }
+  pub answered_all : (e : Option (List ℕ)) → Appends d' e (h []) → Reads a b (λ input. Appends c e (f input))
+  answered_all e last = record { input = over.input; given = over.given; then = subst (λ l. Appends c e (f l)) (append-nil over.input) (advances_all e due [] last) }
 
-  pub answered_front : {e : Option (List ℕ)} → AppendsFront d' e (h []) → AnswersFront a b c e f
-  answered_front {e} last =
-      record { input = over.input; read = over.read; answered = subst (λ l. AppendsFront c e (f l)) (append-nil over.input) (advances_front due [] last) }
+  pub answered_front : {e : Option (List ℕ)} → AppendsFront d' e (h []) → Reads a b (λ input. AppendsFront c e (f input))
+  answered_front {e} last = record { input = over.input; given = over.given; then = subst (λ l. AppendsFront c e (f l)) (append-nil over.input) (advances_front due [] last) }

@@ -3,8 +3,8 @@
 ghost use Rattle.std.specs.Prelude.{◌≡◌, ◌≢◌, ◌+◌, ◌≤◌, ℕ, List, [], ◌∷◌, ◌++◌, OnOk, OnErr};
 ghost use Rattle.std.specs.Io.KnownBytes.{Appends};
 ghost use Rattle.arrayvec.specs.ArrayVec.{array_vec_len};
-ghost use Rattle.listing.specs.Whole.{listing};
-ghost use Rattle.listing.specs.Stream.{HasNoNewline, AppendsFront, Advances};
+ghost use Rattle.listing.specs.Whole.{listing, HasNoNewline};
+ghost use Rattle.listing.specs.Stream.{AppendsFront, Advances};
 
 use crate::{HEADER, listed};
 use arrayvec::ArrayVec;
@@ -61,7 +61,7 @@ impl Lister {
     }
 
     // Ends the line, whose output line waits from here on, and begins the next.
-    fn end(&mut self)
+    fn end_line(&mut self)
         requires { array_vec_len self.old.waiting + 64 ≤ 4096 }
         ensures listed { (unread : List ℕ) → to_come self.old (10 ∷ unread) ≡ to_come self.new unread }
         ensures begun { self.new.line.items ≡ [] }
@@ -87,23 +87,23 @@ impl Lister {
     }
 
     // Takes in a byte of the input.
-    fn step<W: Write>(&mut self, writer: &mut W, byte: u8) -> io::Result<()>
+    fn take_byte<W: Write>(&mut self, writer: &mut W, byte: u8) -> io::Result<()>
         ensures ok { OnOk result (Advances (W.contents writer.old) (W.contents writer.new)
             (λ unread. to_come self.old (byte ∷ unread)) (to_come self.new)) }
         ensures err { OnErr result ((unread : List ℕ) →
             AppendsFront (W.contents writer.old) (W.contents writer.new) (to_come self.old unread)) }
     {
-        if byte != b'\n' {
+        if byte == b'\n' {
+            self.make_room(writer)?;
+            self.end_line();
+        } else {
             self.keep(byte);
-            return Ok(());
         }
-        self.make_room(writer)?;
-        self.end();
         Ok(())
     }
 
     // Takes in a piece of the input, and writes what it gives.
-    pub(crate) fn take<W: Write>(&mut self, writer: &mut W, piece: &[u8]) -> io::Result<()>
+    pub(crate) fn take_piece<W: Write>(&mut self, writer: &mut W, piece: &[u8]) -> io::Result<()>
         ensures ok { OnOk result (Advances (W.contents writer.old) (W.contents writer.new)
             (λ unread. to_come self.old (piece.now ++ unread)) (to_come self.new)) }
         ensures empty { OnOk result (self.new.waiting.items ≡ []) }
@@ -111,7 +111,7 @@ impl Lister {
             (AppendsFront (W.contents writer.old) (W.contents writer.new) (to_come self.old piece.now)) }
     {
         for &byte in piece {
-            self.step(writer, byte)?;
+            self.take_byte(writer, byte)?;
         }
         self.flush(writer)
     }
@@ -127,7 +127,7 @@ impl Lister {
         if self.line.is_empty() {
             return Ok(());
         }
-        self.end();
+        self.end_line();
         write_all(writer, &self.waiting)
     }
 }
@@ -138,7 +138,7 @@ fn write_all<W: Write>(writer: &mut W, bytes: &[u8]) -> io::Result<()>
     ensures err { OnErr result (AppendsFront (W.contents writer.old) (W.contents writer.new) bytes.now) }
 {
     let mut written = 0;
-    // No text takes so many turns, unless signals interrupt it without end.
+    // A loop has an end: each turn writes a byte or more, or a signal has interrupted it.
     'writes: for _ in 0..u64::MAX {
         if bytes.len() <= written {
             return Ok(());

@@ -19,8 +19,8 @@ writes-preserved g c =
     let bytes = c.args.bytes.now in
     record {
       within = elim c.match-write.branch [ in-Ok w ↦ omega (arith, w.written-is, w.in-Ok.ensures.bound) | in-Err w ↦ omega (arith, w.written-is) ];
-      appended = elim c.match-write.branch [
-        | in-Ok w ↦ subst (Appends _ _) (sym (ap (λ k. take k bytes) w.written-is ∙ more bytes c.writes.written w.in-Ok.n)) (Appends-trans _ _ _ _ _ c.writes.invariant.appended w.in-Ok.ensures.bytes)
-        | in-Err w ↦ subst (Appends _ _) (sym (ap (λ k. take k bytes) w.written-is)) (Appends-kept _ _ _ _ c.writes.invariant.appended w.in-Err.ensures.bytes)
+      front = elim c.match-write.branch [
+        | in-Ok w ↦ subst (Appends _ _) (sym (ap (λ k. take k bytes) w.written-is ∙ more bytes c.writes.written w.in-Ok.n)) (Appends-trans _ _ _ _ _ c.writes.invariant.front w.in-Ok.ensures.bytes)
+        | in-Err w ↦ subst (Appends _ _) (sym (ap (λ k. take k bytes) w.written-is)) (Appends-kept _ _ _ _ c.writes.invariant.front w.in-Err.ensures.bytes)
       ];
     }

@@ -34,12 +34,12 @@ pub returns-clause-ok : goal.returns-clause-ok
 returns-clause-ok g c =
     let l = c.args.self.now in
     let long : 0 < length l.line.items = grind (arith, common_steps) in
-    let all = due l c.end.new.self long c.end.ensures.listed c.end.ensures.begun in
+    let all = due l c.end_line.new.self long c.end_line.ensures.listed c.end_line.ensures.begun in
     on_ok_weaker c.write_all.result (subst (Appends _ _) (c.deref.ensures.0 ∙ all)) c.write_all.ensures.ok
 
 pub returns-clause-err : goal.returns-clause-err
 returns-clause-err g c =
     let l = c.args.self.now in
     let long : 0 < length l.line.items = grind (arith, common_steps) in
-    let all = due l c.end.new.self long c.end.ensures.listed c.end.ensures.begun in
+    let all = due l c.end_line.new.self long c.end_line.ensures.listed c.end_line.ensures.begun in
     on_err_weaker c.write_all.result (subst (AppendsFront _ _) (c.deref.ensures.0 ∙ all)) c.write_all.ensures.err

@@ -9,20 +9,20 @@ use Rattle.listing.specs.Stream.{AppendsFront}
 use Rattle.listing.specs.declared.lister.Lister.{Lister}
 use Rattle.listing.specs.Lister.{to_come}
 use Rattle.listing.proofs.Steps.{advances_then, advances_front, next_byte, no_more}
-use Rattle.listing.proofs.lister.Lister.take.Goals as goal
+use Rattle.listing.proofs.lister.Lister.take_piece.Goals as goal
 
 -- nothing follows the piece
 whole : {a b : Option (List ℕ)} (l : Lister) (piece : List ℕ) → AppendsFront a b (to_come l (piece ++ [])) → AppendsFront a b (to_come l piece)
 whole {a} {b} l piece p = subst (λ bs. AppendsFront a b (to_come l bs)) (append-nil piece) p
 
-pub returns-in_err-step-clause-err : goal.returns-in_err-step-clause-err
-returns-in_err-step-clause-err g c =
+pub returns-in_err-take_byte-clause-err : goal.returns-in_err-take_byte-clause-err
+returns-in_err-take_byte-clause-err g c =
     let p = err_from_is_err_and c.from_residual.result c.from_residual.ensures.1 in
-    rw p.1 (whole c.args.self.now c.args.piece.now (advances_front c.loop-byte.invariant [] (c.in_err-step.ensures.err _)))
+    rw p.1 (whole c.args.self.now c.args.piece.now (advances_front c.loop-byte.invariant [] (c.in_err-take_byte.ensures.err _)))
 
 pub loop-byte-preserved : goal.loop-byte-preserved
 loop-byte-preserved g c =
-    advances_then c.loop-byte.invariant (next_byte (to_come c.loop-byte.self) (to_come c.step.new.self) c.args.piece.now c.loop-byte.byte-index c.loop-byte-test.true c.in_ok-step.ensures.ok)
+    advances_then c.loop-byte.invariant (next_byte (to_come c.loop-byte.self) (to_come c.take_byte.new.self) c.args.piece.now c.loop-byte.byte-index c.loop-byte-test.true c.in_ok-take_byte.ensures.ok)
 
 pub returns-clause-ok : goal.returns-clause-ok
 returns-clause-ok g c =

@@ -2,7 +2,7 @@
 use Rattle.std.specs.Prelude.{◌++◌, drop}
 use Rattle.listing.specs.Stream.{Advances}
 use Rattle.listing.specs.Lister.{to_come}
-use Rattle.listing.proofs.lister.Lister.take.Given as goal
+use Rattle.listing.proofs.lister.Lister.take_piece.Given as goal
 
 abbrev pub invariant-loop-byte : goal.invariant-loop-byte
 invariant-loop-byte g l =

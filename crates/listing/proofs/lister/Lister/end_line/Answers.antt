@@ -6,7 +6,7 @@ use native.Mathlib.Omega.{arith}
 use Rattle.std.proofs.Common.{rules}
 use Rattle.listing.specs.Listing.{listed}
 use Rattle.listing.proofs.Lines.{listed_ended}
-use Rattle.listing.proofs.lister.Lister.end.Goals as goal
+use Rattle.listing.proofs.lister.Lister.end_line.Goals as goal
 
 pub returns-clause-listed : goal.returns-clause-listed
 returns-clause-listed c unread =
