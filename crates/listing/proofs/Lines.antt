@@ -54,30 +54,33 @@ lines_last [] long h = absurd (omega arith)
 lines_last (b ∷ line) long h = lines_onto (b ∷ line) [] h ∙ onto_none b line ∙ sym (lines_ended (b ∷ line) [] h)
 
 -- a byte past the 82nd
-pub passed_over : (n b : ℕ) (line bs : List ℕ) → HasNoNewline line → b ≢ 10 → 82 ≤ length line → listed_from n (lines_of (line ++ b ∷ bs)) ≡ listed_from n (lines_of (line ++ bs))
+pub passed_over : (n b : ℕ) (line bs : List ℕ) → HasNoNewline line → b ≢ 10 → 82 ≤ length line
+    → listed_from n (lines_of (line ++ b ∷ bs)) ≡ listed_from n (lines_of (line ++ bs))
 unfolding listed_from
 passed_over n b line bs h k long =
-    ap (listed_from n) (lines_onto line (b ∷ bs) h ∙ ap (onto line) (lines_byte b bs k)) ∙ go line (lines_of bs) long ∙ sym (ap (listed_from n) (lines_onto line bs h))
+    ap (listed_from n) (lines_onto line (b ∷ bs) h ∙ ap (onto line) (lines_byte b bs k)) ∙ go line (lines_of bs) long
+    ∙ sym (ap (listed_from n) (lines_onto line bs h))
   where
-    same : (line more : List ℕ) → 82 ≤ length line → listed (min n (2 ^ 64 - 1)) (line ++ more) ≡ listed (min n (2 ^ 64 - 1)) line
-    same line more long = long_line (min n (2 ^ 64 - 1)) line more long
+    shown : ℕ
+    shown = min n (2 ^ 64 - 1)
 
     go : (line : List ℕ) (lines : List (List ℕ)) → 82 ≤ length line → listed_from n (onto line (onto_first b lines)) ≡ listed_from n (onto line lines)
     go [] lines long = absurd (omega arith)
-    go (c ∷ line) [] long =
-        rw (onto_line (c ∷ line) (b ∷ []) [], onto_none c line) (ap (λ l. l ++ []) (same (c ∷ line) (b ∷ []) long))
+    go (c ∷ line) [] long = rw (onto_line (c ∷ line) (b ∷ []) [], onto_none c line) (ap (λ l. l ++ []) (long_line shown (c ∷ line) (b ∷ []) long))
     go (c ∷ line) (l ∷ lines) long =
-        rw (onto_line (c ∷ line) (b ∷ l) lines, onto_line (c ∷ line) l lines) (ap (λ x. x ++ listed_from (n + 1) lines) (same (c ∷ line) (b ∷ l) long ∙ sym (same (c ∷ line) l long)))
+        let same = long_line shown (c ∷ line) (b ∷ l) long ∙ sym (long_line shown (c ∷ line) l long) in
+        rw (onto_line (c ∷ line) (b ∷ l) lines, onto_line (c ∷ line) l lines) (ap (λ x. x ++ listed_from (n + 1) lines) same)
 
 -- a number past 64 bits
 pub numbered : (n : ℕ) (lines : List (List ℕ)) → listed_from (min n (2 ^ 64 - 1)) lines ≡ listed_from n lines
 unfolding listed_from
 numbered n [] = refl
 numbered n (line ∷ lines) =
-    let last : min (min n (2 ^ 64 - 1)) (2 ^ 64 - 1) ≡ min n (2 ^ 64 - 1) = omega arith in
-    let next : min (min n (2 ^ 64 - 1) + 1) (2 ^ 64 - 1) ≡ min (n + 1) (2 ^ 64 - 1) = omega arith in
-    ap (λ m. listed m line ++ listed_from (min n (2 ^ 64 - 1) + 1) lines) last
-    ∙ ap (λ l. listed (min n (2 ^ 64 - 1)) line ++ l) (sym (numbered (min n (2 ^ 64 - 1) + 1) lines) ∙ ap (λ m. listed_from m lines) next ∙ numbered (n + 1) lines)
+    let shown = min n (2 ^ 64 - 1) in
+    let last : min shown (2 ^ 64 - 1) ≡ shown = omega arith in
+    let next : min (shown + 1) (2 ^ 64 - 1) ≡ min (n + 1) (2 ^ 64 - 1) = omega arith in
+    let after = sym (numbered (shown + 1) lines) ∙ ap (λ m. listed_from m lines) next ∙ numbered (n + 1) lines in
+    ap (λ m. listed m line ++ listed_from (shown + 1) lines) last ∙ ap (λ l. listed shown line ++ l) after
 
 -- a newline: the output line of the line that it ends, and the next line begins
 pub listed_ended : (n : ℕ) (line bs : List ℕ) → HasNoNewline line → n < 2 ^ 64

@@ -2,7 +2,7 @@
 //
 //     header       writes the header of a listing into a lent buffer
 //     list_line    writes the output line of a line into a lent buffer
-//     list         writes the listing of all that a reader has, to a writer
+//     list         reads a whole input and writes its listing
 #![tactic(auto)]
 
 mod lister;
@@ -80,10 +80,8 @@ fn listed(number: u64, line: &[u8]) -> ArrayVec<u8, 64>
 {
     let order = default_order();
     let mut completion = [0; 81];
-    show(
-        number,
-        grade(line, &order, DEFAULT_CEILING, &mut completion),
-    )
+    let answer = grade(line, &order, DEFAULT_CEILING, &mut completion);
+    show(number, answer)
 }
 
 // Grades a line of input under the default order and ceiling, and writes its output line.

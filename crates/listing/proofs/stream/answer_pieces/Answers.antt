@@ -20,11 +20,17 @@ returns-in_err-take_piece-in-Ok-clause-err g c =
 
 pub reads-preserved : goal.reads-preserved
 reads-preserved g c =
-    let so_far = c.reads.invariant.answered in
+    let so_far = c.reads.invariant in
     record {
-      empty = elim c.match-read.branch [ in-Ok+in_ok-take_piece-in-Ok w ↦ rw w.lister-is w.in_ok-take_piece-in-Ok.ensures.empty | in-Err w ↦ rw w.lister-is c.reads.invariant.empty ];
+      empty = elim c.match-read.branch [
+        | in-Ok+in_ok-take_piece-in-Ok w ↦ rw w.lister-is w.in_ok-take_piece-in-Ok.ensures.empty
+        | in-Err w ↦ rw w.lister-is so_far.empty
+      ];
       answered = elim c.match-read.branch [
-        | in-Ok+in_ok-take_piece-in-Ok w ↦ rw (w.writer-is, w.lister-is) (piece_more (to_come c.args.lister.now) _ (take w.in-Ok.n c.read.new.buf) so_far w.in-Ok.ensures.bytes.0 w.in_ok-take_piece-in-Ok.ensures.ok)
-        | in-Err w ↦ rw (w.writer-is, w.lister-is) (none_more _ so_far w.in-Err.ensures.bytes)
+        | in-Ok+in_ok-take_piece-in-Ok w ↦
+            let piece = take w.in-Ok.n c.read.new.buf in
+            let answered = w.in_ok-take_piece-in-Ok.ensures.ok in
+            rw (w.writer-is, w.lister-is) (piece_more (to_come c.args.lister.now) _ piece so_far.answered w.in-Ok.ensures.bytes.0 answered)
+        | in-Err w ↦ rw (w.writer-is, w.lister-is) (none_more _ so_far.answered w.in-Err.ensures.bytes)
       ];
     }

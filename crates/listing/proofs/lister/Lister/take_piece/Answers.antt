@@ -22,12 +22,18 @@ returns-in_err-take_byte-clause-err g c =
 
 pub loop-byte-preserved : goal.loop-byte-preserved
 loop-byte-preserved g c =
-    advances_then c.loop-byte.invariant (next_byte (to_come c.loop-byte.self) (to_come c.take_byte.new.self) c.args.piece.now c.loop-byte.byte-index c.loop-byte-test.true c.in_ok-take_byte.ensures.ok)
+    let l = c.loop-byte in
+    let next = next_byte (to_come l.self) (to_come c.take_byte.new.self) c.args.piece.now l.byte-index c.loop-byte-test.true c.in_ok-take_byte.ensures.ok in
+    advances_then l.invariant next
 
 pub returns-clause-ok : goal.returns-clause-ok
 returns-clause-ok g c =
-    on_ok_weaker c.flush.result (advances_then (no_more (to_come c.loop-byte.self) c.args.piece.now c.loop-byte.byte-index c.loop-byte-test.false c.loop-byte.invariant)) c.flush.ensures.ok
+    let l = c.loop-byte in
+    let all = no_more (to_come l.self) c.args.piece.now l.byte-index c.loop-byte-test.false l.invariant in
+    on_ok_weaker c.flush.result (advances_then all) c.flush.ensures.ok
 
 pub returns-clause-err : goal.returns-clause-err
 returns-clause-err g c =
-    on_err_weaker c.flush.result (λ h. whole c.args.self.now c.args.piece.now (advances_front (no_more (to_come c.loop-byte.self) c.args.piece.now c.loop-byte.byte-index c.loop-byte-test.false c.loop-byte.invariant) [] (h []))) c.flush.ensures.err
+    let l = c.loop-byte in
+    let all = no_more (to_come l.self) c.args.piece.now l.byte-index c.loop-byte-test.false l.invariant in
+    on_err_weaker c.flush.result (λ h. whole c.args.self.now c.args.piece.now (advances_front all [] (h []))) c.flush.ensures.err
