@@ -1,1 +1,4 @@
 pub mod Listing
+pub mod Whole
+pub mod Stream
+pub mod Lister

@@ -1,5 +1,5 @@
 -- The lines of a listing, byte for byte.
-use Rattle.std.specs.Prelude.{◌≡◌, cond, List, [], ◌∷◌, ◌++◌, ℕ, zero, suc, ◌+◌, ◌/◌, ◌%◌, ◌≤◌, ltb, length, set, take, Result, Ok, Err}
+use Rattle.std.specs.Prelude.{◌≡◌, cond, List, [], ◌∷◌, ◌++◌, ℕ, zero, suc, ◌+◌, ◌/◌, ◌%◌, ◌≤◌, ltb, length, set, Result, Ok, Err}
 use Rattle.grid.specs.Refusals as refusals
 use Rattle.grid.specs.declared.Refusal.{Refusal}
 use Rattle.orders.specs.Order.{default_order, default_ceiling}
@@ -39,17 +39,13 @@ listed n line = shown n (grade_call line default_order default_ceiling zeros).0
 abbrev pub NoSix : Type 0
 NoSix = (n : ℕ) (line : List ℕ) (trials : ℕ) → listed n line ≡ shown n (Ok (rating verdict.Stopped trials)) → ⊥
 
--- of a line longer than a grid its first 82 bytes tell the output line
-abbrev pub LongLine : Type 0
-LongLine = (n : ℕ) (line : List ℕ) → 82 ≤ length line → listed n (take 82 line) ≡ listed n line
-
 -- bytes written from place `at` on
-unfoldable pub put : ℕ → List ℕ → List ℕ → List ℕ
-put at [] out = out
-put at (b ∷ bs) out = put (suc at) bs (set out at b)
+unfoldable pub written_at : ℕ → List ℕ → List ℕ → List ℕ
+written_at at [] out = out
+written_at at (b ∷ bs) out = written_at (suc at) bs (set out at b)
 
 -- what a call that writes a text gives back: its length n, for which 64 lent bytes have room, and the bytes with the text at their start
 pub record Writes (text out out' : List ℕ) (n : ℕ) : Type 0 where
-  pub length : n ≡ length text
-  pub bytes : out' ≡ put 0 text out
+  pub size : n ≡ length text
+  pub bytes : out' ≡ written_at 0 text out
   pub room : n ≤ 64

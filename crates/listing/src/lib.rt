@@ -1,8 +1,12 @@
-// The lines of a listing: a line of input is graded under the defaults, and its output line is written into a lent buffer.
+// Listings: each line of an input is graded under the defaults.
 //
-//     header       writes the header of a listing
-//     list_line    writes an output line of a listing
+//     header       writes the header of a listing into a lent buffer
+//     list_line    writes the output line of a line into a lent buffer
+//     list         reads a whole input and writes its listing
 #![tactic(auto)]
+
+mod lister;
+mod stream;
 
 ghost use Rattle.std.specs.Prelude.{◌≡◌, ◌++◌, ◌+◌, ◌≤◌, length};
 ghost use Rattle.arrayvec.specs.ArrayVec.{array_vec_len};
@@ -13,12 +17,13 @@ use grading::{Rating, grade};
 use grid::Refusal;
 use itoa::Buffer;
 use orders::order::{DEFAULT_CEILING, default_order};
+pub use stream::{Failure, list};
 
 // The header of a listing.
 const HEADER: [u8; 20] = *b"line verdict trials\n";
 
 // Writes a text at the start of a lent buffer, in which any line has room, and says how long it is; what is past it stays.
-#[tactic(auto, using(crate::proofs::Decimal::put_copies))]
+#[tactic(auto, using(crate::proofs::Decimal::written_copies))]
 fn write(text: &[u8], out: &mut [u8; 64]) -> usize
     requires { length text.now ≤ 64 }
     ensures { Writes text.now out.old out.new result }
@@ -68,13 +73,20 @@ fn show(number: u64, answer: Result<Rating, Refusal>) -> ArrayVec<u8, 64>
     text
 }
 
-// Grades a line of input under the default order and ceiling, and writes its output line.
+// The output line of a line of input, which is graded under the default order and ceiling.
 #[tactic(auto, unfolding(crate::specs::Listing::listed))]
-pub fn list_line(number: u64, line: &[u8], out: &mut [u8; 64]) -> usize
-    ensures { Writes (listed number line.now) out.old out.new result }
+fn listed(number: u64, line: &[u8]) -> ArrayVec<u8, 64>
+    ensures { result.items ≡ listed number line.now }
 {
     let order = default_order();
     let mut completion = [0; 81];
     let answer = grade(line, &order, DEFAULT_CEILING, &mut completion);
-    write(&show(number, answer), out)
+    show(number, answer)
+}
+
+// Grades a line of input under the default order and ceiling, and writes its output line.
+pub fn list_line(number: u64, line: &[u8], out: &mut [u8; 64]) -> usize
+    ensures { Writes (listed number line.now) out.old out.new result }
+{
+    write(&listed(number, line), out)
 }
