@@ -15,7 +15,6 @@ use Rattle.grading.specs.Grade.{number_of, rating, Given, grade_call}
 use Rattle.grading.specs.declared.Rating.{Rating}
 use Rattle.grading.specs.declared.Verdict.{Verdict}
 use Rattle.grading.specs.declared.Verdict.TheVariants.{NoCompletion, Finished, Unfinished, Stopped, SeveralCompletions}
-use Rattle.grading.specs.Says.{GradingSays}
 use Rattle.grading.proofs.Says.{number_range, Answers}
 use Rattle.grading.proofs.Calls.{grade_answers}
 use Rattle.listing.specs.Listing.{field, shown, listed, NoSix}
