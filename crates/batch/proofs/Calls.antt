@@ -51,7 +51,7 @@ module _ (g : List ℕ) (n : ℕ) (o : List ℤ) (c : ℕ) (m a : List ℕ) wher
       last_first (refused m a) told (λ f. refl) (order_check o) _ (order_rules o) (order_broken o) λ w order. refl
 
   -- what holds of a refusal and of what a batch gives back holds of the call
-  by_checks : (P : Given → Type 0) → ((f : Refusal) → P (refused m a f)) 
+  by_checks : (P : Given → Type 0) → ((f : Refusal) → P (refused m a f))
       → (lent_check (length g) (length m) (length a) ≡ Ok tt → bytes_check g ≡ Ok tt → (t : Technique) → technique_of n ≡ Ok t → order_check o ≡ Ok tt → P (ran (jobs_of t o g c)))
       → P (batch_call g n o c m a)
   unfolding batch_call

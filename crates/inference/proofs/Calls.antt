@@ -83,13 +83,13 @@ module _ (g : List ℕ) (n : ℕ) (o : List ℤ) (c : ℕ) (m : List ℕ) where
   unfolding job_of
   call_ran e t =
       by_checks (λ y. y ≡ (Ok e, t) → Ran e t) (λ f q. no_answer (ap (λ y. y.0) q)) (λ s known order q. (
-          let same = same_answer (ap (λ y. y.0) q) in
-          record {
-            technique = s;
-            known = known;
-            order = order;
-            tells = record { outcome_is = ap (λ x. outcome_number x.outcome) same; count_is = ap (λ x. x.count) same; marks_are = ap (λ y. y.1) q };
-          }))
+      let same = same_answer (ap (λ y. y.0) q) in
+      record {
+        technique = s;
+        known = known;
+        order = order;
+        tells = record { outcome_is = ap (λ x. outcome_number x.outcome) same; count_is = ap (λ x. x.count) same; marks_are = ap (λ y. y.1) q };
+      }))
 
 -- the job of accepted inputs is what the call gives, whatever marks are lent
 pub call_gives : (g : List ℕ) (n : ℕ) (o : List ℤ) (c : ℕ) (m : List ℕ) (t : Technique) → length m ≡ 729 → grid_check g ≡ Ok tt → technique_of n ≡ Ok t → order_check o ≡ Ok tt
