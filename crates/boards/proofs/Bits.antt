@@ -1,7 +1,8 @@
 -- Bits that are set.
 -- Assumes nothing.
-use mathlib.Core.Path.{◌≡◌, refl, ap, sym, subst, ◌∙◌}
-use Prim.Native.Nat.{ℕ, zero, suc, ◌+◌, ◌*◌, ◌-◌, ◌/◌, ◌%◌, ◌^◌, ◌<◌, min, max}
+use mathlib.Core.Path.{◌≡◌, ap, ◌∙◌}
+use mathlib.Core.Logic.{◌⊎◌, inl, inr}
+use Prim.Native.Nat.{ℕ, ◌+◌, ◌*◌, ◌/◌, ◌%◌, ◌^◌, ◌<◌}
 use native.Mathlib.Decide.{ℕ_discrete}
 use native.Mathlib.Omega.{arith}
 use mir.Syntax.{w32}
@@ -39,4 +40,10 @@ pub lone : (k i : ℕ) → k < 32 → On (1 * 2 ^ k % 4294967296) i → i ≡ k
 lone k i h y = elim (ℕ_discrete i k) [
   | yes e ↦ e
   | no n ↦ absurd (omega (arith, on_right 0 (1 * 2 ^ k % 4294967296) i y, bit_at_set_other w32 0 k h i n, bit_at-zero i))
+]
+
+pub of_either : (a b i : ℕ) → On (bit_or a b) i → On a i ⊎ On b i
+of_either a b i h = elim (ℕ_discrete (bit_at a i) 1) [
+  | yes e ↦ inl e
+  | no n ↦ inr (omega (arith, bit_at_or a b i, h, bit_at-lt a i, bit_at-lt b i, n))
 ]

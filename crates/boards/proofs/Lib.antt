@@ -4,3 +4,4 @@ pub mod Positions
 pub mod Writes
 pub mod Thirds
 pub mod Ways
+pub mod Crowds

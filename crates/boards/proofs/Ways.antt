@@ -2,22 +2,20 @@
 -- all its cells. So the cells of other ways go; a cell that is in each way that is left is in its way; and a column that is the only one of
 -- its box is its column there.
 -- Assumes nothing.
-use mathlib.Core.Path.{◌≡◌, refl, ap, sym, subst, ◌∙◌}
-use mathlib.Core.Bool.{Bool, true, false, not, ◌&&◌, ◌||◌}
+use mathlib.Core.Path.{◌≡◌, sym, subst, ◌∙◌}
+use mathlib.Core.Bool.{not, ◌||◌}
 use mathlib.Core.List.{List, []}
-use Prim.Native.Nat.{ℕ, zero, suc, ◌+◌, ◌*◌, ◌-◌, ◌/◌, ◌%◌, ◌^◌, ◌<◌}
+use Prim.Native.Nat.{ℕ, zero, suc, ◌+◌, ◌*◌, ◌/◌, ◌%◌, ◌<◌}
 use native.Mathlib.Omega.{arith}
 use lib.Dec.{T, eqb}
-use lib.ListN.{get_or}
 use Rattle.std.specs.Int.{bit_at}
 use Rattle.grid.specs.Completion.{Legal}
 use Rattle.grid.specs.Counting.{all}
 use Rattle.grid.proofs.Counting.{all_iff}
 use Rattle.grid.proofs.Completion.{eq_iff}
-use Rattle.grid.proofs.Table.{and_iff}
 use Rattle.boards.specs.Tables.{on, third, takes, is_way, is_left, some_way_rule, every_way_rule, is_single, singles_rule}
-use Rattle.boards.specs.Boards.{On, Has, HasAll, Covers, Pointed, IsThirds, IsColumns}
-use Rattle.boards.proofs.Tests.{by_test, then, both, differ}
+use Rattle.boards.specs.Boards.{On, Has, Covers, Pointed, IsThirds, IsColumns}
+use Rattle.boards.proofs.Tests.{then, both, differ}
 use Rattle.boards.proofs.Positions.{in_row, in_box, same_row, same_column, same_box}
 
 same : (x y : ℕ) → T (eqb x y) → x ≡ y

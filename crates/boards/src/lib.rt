@@ -3,9 +3,15 @@
 //
 //     tables      what the places of a digit in a band say of its others
 //     state       the boards, and a digit placed or struck
-//     settling    looks for what the places say, until nothing changes
+//     start       the boards of a grid
+//     settling    looks at what the words say, until nothing changes
+//     only        the only grid that may fit
+//     crowding    whether a house has too few cells for some of its digits
 #![tactic(auto)]
 
+pub mod crowding;
+pub mod only;
 pub mod settling;
+pub mod start;
 pub mod state;
 pub mod tables;

@@ -1,6 +1,6 @@
 -- A digit that is looked at gets its bit, and the others keep theirs.
-use mathlib.Core.Path.{◌≡◌, sym, subst, ◌∙◌}
-use Prim.Native.Nat.{ℕ, ◌<◌, ◌*◌, ◌+◌}
+use mathlib.Core.Path.{subst}
+use Prim.Native.Nat.{ℕ, ◌*◌, ◌+◌}
 use native.Mathlib.Decide.{ℕ_discrete}
 use native.Mathlib.Omega.{arith}
 use mir.Syntax.{w32}
@@ -17,9 +17,9 @@ loop-d-preserved c =
       omega arith,
       λ e h y. elim (ℕ_discrete e d) [
         | yes q ↦ (
-          let set : On (word d) c.args.i = subst (λ x. On (word x) c.args.i) q y in
-          rw (q, shr_and_one (word d) c.args.i, set) (bit_at_set_same w32 c.loop-d.digits d (omega arith))
-        )
+            let set : On (word d) c.args.i = subst (λ x. On (word x) c.args.i) q y in
+            rw (q, shr_and_one (word d) c.args.i, set) (bit_at_set_same w32 c.loop-d.digits d (omega arith))
+            )
         | no n ↦ on_left _ _ e (c.loop-d.invariant.1 e (omega arith) y)
       ],
     )

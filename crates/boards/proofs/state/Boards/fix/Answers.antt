@@ -1,10 +1,8 @@
 -- Where another digit stands in the band, the digit does not: so that what goes is no cell of it. The digit's own word is put back.
-use Prim.Native.Nat.{ℕ}
 use native.Mathlib.Omega.{arith}
-use Rattle.boards.specs.Boards.{On, Has, Covers}
 use Rattle.boards.proofs.Bits.{on_without}
 use Rattle.boards.proofs.Positions.{one_digit}
-use Rattle.boards.proofs.Writes.{But, some_fit, write_last, write_other}
+use Rattle.boards.proofs.Writes.{write_last, write_other}
 use Rattle.boards.proofs.state.Boards.fix.Goals as goal
 
 pub loop-e-preserved : goal.loop-e-preserved

@@ -3,11 +3,11 @@
 use mathlib.Core.List.{List}
 use Prim.Native.Nat.{ℕ, ◌<◌, ◌+◌, ◌*◌}
 use native.Mathlib.Omega.{arith}
-use mathlib.Core.Path.{◌≡◌, sym, subst}
+use mathlib.Core.Path.{sym, subst}
 use lib.ListN.{get_or}
 use Rattle.std.specs.Prelude.{bit_and, IsTrue}
 use Rattle.boards.specs.Tables.{some_way_rule}
-use Rattle.boards.specs.Boards.{On, Has, HasAll, Covers, Fits, IsThirds}
+use Rattle.boards.specs.Boards.{On, HasAll, Covers, Fits, IsThirds}
 use Rattle.boards.proofs.Tests.{holds}
 use Rattle.boards.proofs.Bits.{none_on, on_both, of_both}
 use Rattle.boards.proofs.Positions.{in_row}
@@ -44,12 +44,12 @@ returns c b f =
     let g = c.point.ensures b f covers (pointed b f.legal d j few band left c.columns_of.result c.singles-single.result covers c.columns_of.ensures (holds c.singles-single.ensures)) in
     elim c.if-alone-ne0.branch [
       | then-alone-ne0 w ↦ (
-        let there : HasAll b d j _ = λ i h y.
-            let u = of_both (bit_and (bit_and left c.every_way.result) c.singles-single.result) _ i y in
-            let v = of_both (bit_and left c.every_way.result) c.singles-single.result i u.0 in
-            alone b f.legal d j few band left c.columns_of.result c.singles-single.result covers c.columns_of.ensures (holds c.singles-single.ensures) i h v.1
-            (every_way_takes b f.legal d j few band word s (f.covered d j few band) c.thirds_of-thirds.ensures c.every_way.result (holds c.every_way.ensures) i h (of_both left c.every_way.result i v.0).1) in
-        subst (λ x. Fits x.words b) (sym w.self-is) (w.fix.ensures b g there)
-      )
+          let there : HasAll b d j _ = λ i h y.
+          let u = of_both (bit_and (bit_and left c.every_way.result) c.singles-single.result) _ i y in
+          let v = of_both (bit_and left c.every_way.result) c.singles-single.result i u.0 in
+          alone b f.legal d j few band left c.columns_of.result c.singles-single.result covers c.columns_of.ensures (holds c.singles-single.ensures) i h v.1
+          (every_way_takes b f.legal d j few band word s (f.covered d j few band) c.thirds_of-thirds.ensures c.every_way.result (holds c.every_way.ensures) i h (of_both left c.every_way.result i v.0).1) in
+          subst (λ x. Fits x.words b) (sym w.self-is) (w.fix.ensures b g there)
+          )
       | else-alone-ne0 w ↦ subst (λ x. Fits x.words b) (sym w.self-is) g
     ]

@@ -1,8 +1,7 @@
 -- A grid that fits has one of the digits in the cell, so that there is one, and where there is only one it is this.
-use mathlib.Core.Path.{◌≡◌, subst}
-use Prim.Native.Nat.{ℕ}
+use mathlib.Core.Path.{subst}
 use native.Mathlib.Omega.{arith}
-use Rattle.boards.specs.Boards.{On, Has, Fits}
+use Rattle.boards.specs.Boards.{On, Has}
 use Rattle.boards.proofs.Bits.{none_on, lone}
 use Rattle.boards.proofs.Positions.{some_digit}
 use Rattle.boards.proofs.state.Boards.look_at_cell.Goals as goal

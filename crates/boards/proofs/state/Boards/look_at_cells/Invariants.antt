@@ -2,3 +2,5 @@
 use Rattle.boards.specs.Boards.{Keeps}
 use Rattle.boards.proofs.state.Boards.look_at_cells.Given as goal
 
+abbrev pub invariant-loop : goal.invariant-loop
+invariant-loop l = Keeps l.fn.self.words l.self.words

@@ -2,3 +2,8 @@
 use Rattle.boards.specs.Boards.{Keeps}
 use Rattle.boards.proofs.state.Boards.look_at_words.Given as goal
 
+abbrev pub invariant-loop : goal.invariant-loop
+invariant-loop l = Keeps l.fn.self.words l.self.words
+
+abbrev pub invariant-loop-2 : goal.invariant-loop-2
+invariant-loop-2 l = Keeps l.fn.self.words l.self.words

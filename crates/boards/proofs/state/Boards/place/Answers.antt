@@ -1,19 +1,17 @@
 -- A cell that goes shares a house with that of the digit, so that the digit does not stand in it.
-use mathlib.Core.Path.{◌≡◌, sym, subst, ◌∙◌}
-use mathlib.Core.Bool.{Bool, true, false, not, ◌&&◌, ◌||◌}
+use mathlib.Core.Path.{◌≡◌, sym, subst}
+use mathlib.Core.Bool.{not, ◌&&◌, ◌||◌}
 use mathlib.Core.List.{List}
-use Prim.Native.Nat.{ℕ, ◌+◌, ◌*◌, ◌/◌, ◌%◌, ◌<◌}
-use native.Mathlib.Decide.{ℕ_discrete}
+use Prim.Native.Nat.{ℕ, ◌/◌, ◌%◌, ◌<◌}
 use native.Mathlib.Omega.{arith}
 use lib.Dec.{T, eqb, T_not}
-use Rattle.std.specs.Prelude.{IsTrue}
 use Rattle.grid.proofs.Counting.{all_iff}
 use Rattle.grid.proofs.Completion.{eq_iff}
 use Rattle.grid.proofs.Table.{and_iff}
 use Rattle.std.specs.Int.{bit_at}
 use Rattle.boards.proofs.Tests.{by_test}
 use Rattle.boards.specs.Tables.{on, share_house, placed_rule}
-use Rattle.boards.specs.Boards.{On, Has, Covers, Fits}
+use Rattle.boards.specs.Boards.{Has, Covers, Fits}
 use Rattle.boards.proofs.Bits.{on_both}
 use Rattle.boards.proofs.Positions.{same_row, same_column, same_box}
 use Rattle.boards.proofs.Writes.{write}

@@ -1,10 +1,8 @@
 -- In the other bands the cells of the columns are none of the digit. Its own word is written last.
-use Prim.Native.Nat.{ℕ}
 use native.Mathlib.Omega.{arith}
-use mathlib.Core.Path.{◌≡◌, refl}
-use Rattle.boards.specs.Boards.{On, Has, Covers}
+use mathlib.Core.Path.{refl}
 use Rattle.boards.proofs.Bits.{on_without}
-use Rattle.boards.proofs.Writes.{But, write_last, write_other}
+use Rattle.boards.proofs.Writes.{write_last, write_other}
 use Rattle.boards.proofs.state.Boards.point.Goals as goal
 
 pub loop-k-preserved : goal.loop-k-preserved
