@@ -2,13 +2,13 @@
 -- Assumes nothing.
 use mathlib.Core.Path.{◌≡◌, ap, ◌∙◌}
 use mathlib.Core.Logic.{◌⊎◌, inl, inr}
-use Prim.Native.Nat.{ℕ, ◌+◌, ◌*◌, ◌/◌, ◌%◌, ◌^◌, ◌<◌}
+use Prim.Native.Nat.{ℕ, ◌+◌, ◌-◌, ◌*◌, ◌/◌, ◌%◌, ◌^◌, ◌<◌}
 use native.Mathlib.Decide.{ℕ_discrete}
 use native.Mathlib.Omega.{arith}
 use mir.Syntax.{w32}
 use Rattle.std.specs.Prelude.{bit_and, bit_or}
 use Rattle.std.specs.Int.{bit_at, bit_not}
-use Rattle.std.proofs.lemmas.Nat.{shr-shr}
+use Rattle.std.proofs.lemmas.Nat.{shr-shr, and_le_r}
 use Rattle.std.proofs.lemmas.Nat.Bits.{bit_at_and, bit_at_or, bit_at_not, bit_at-lt, bit_at-zero, bit_at_set_other}
 use Rattle.boards.specs.Boards.{On}
 
@@ -47,3 +47,7 @@ of_either a b i h = elim (ℕ_discrete (bit_at a i) 1) [
   | yes e ↦ inl e
   | no n ↦ inr (omega (arith, bit_at_or a b i, h, bit_at-lt a i, bit_at-lt b i, n))
 ]
+
+-- without its lowest bit a word is less
+pub fewer : (n : ℕ) → (n ≡ 0 → ⊥) → bit_and n (n - 1) < n
+fewer n h = omega (arith, and_le_r n (n - 1))

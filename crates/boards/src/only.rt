@@ -22,15 +22,13 @@ fn words_of(grid: &[u8; 81]) -> [u32; 36]
 
 impl Boards {
     // The digits that stand alone in their cells. Of other cells nothing is promised, nor that it is so.
+    #[tactic(auto, using(crate::proofs::Bits::fewer))]
     fn digits(&self) -> [u8; 81] {
         let mut grid = [b'1'; 81];
         for d in 1..9 {
             for j in 0..3 {
                 let mut word = self.words[4 * d + j];
-                for _ in 0..27 {
-                    if word == 0 {
-                        break;
-                    }
+                while word != 0 {
                     let i = word.trailing_zeros() as usize;
                     word &= word - 1;
                     if i < 27 {

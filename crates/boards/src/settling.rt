@@ -24,20 +24,18 @@ fn columns_of(word: u32) -> usize
     ((word | word >> 9 | word >> 18) & 511) as usize
 }
 
-// A bit for each digit and band, d + 9 j for digit d + 1 in band j; none for the word that is not used.
-static BIT: [u32; 36] = [
-    0x0000001, 0x0000200, 0x0040000, 0, 0x0000002, 0x0000400, 0x0080000, 0, 0x0000004, 0x0000800,
-    0x0100000, 0, 0x0000008, 0x0001000, 0x0200000, 0, 0x0000010, 0x0002000, 0x0400000, 0,
-    0x0000020, 0x0004000, 0x0800000, 0, 0x0000040, 0x0008000, 0x1000000, 0, 0x0000080, 0x0010000,
-    0x2000000, 0, 0x0000100, 0x0020000, 0x4000000, 0,
-];
-
-// The words that have changed since they were looked at.
+// The digits whose word of a band has changed since it was looked at, for each band a bit for each; four words of a digit at a time, as they are lanes.
 #[inline(never)]
-fn changed(words: &[u32; 36], seen: &[u32; 36]) -> u32 {
-    let mut bits = 0;
-    for t in 0..36 {
-        bits |= if words[t] != seen[t] { BIT[t] } else { 0 };
+fn changed(words: &[u32; 36], seen: &[u32; 36]) -> [u32; 4] {
+    let mut bits = [0; 4];
+    for d in 0..9 {
+        for j in 0..4 {
+            bits[j] |= if words[4 * d + j] != seen[4 * d + j] {
+                1 << d as u32
+            } else {
+                0
+            };
+        }
     }
     bits
 }
@@ -45,9 +43,9 @@ fn changed(words: &[u32; 36], seen: &[u32; 36]) -> u32 {
 // The cells of each band that have so many digits left or more.
 #[derive(Clone, Copy)]
 pub struct Counts {
-    pub one: [u32; 3],
-    pub two: [u32; 3],
-    pub three: [u32; 3],
+    pub one: [u32; 4],
+    pub two: [u32; 4],
+    pub three: [u32; 4],
 }
 
 impl Boards {
@@ -97,25 +95,36 @@ impl Boards {
         Ok(())
     }
 
-    // Looks at words until none has changed.
+    // Looks at the words of some digits in a band.
+    #[tactic(auto, using(crate::proofs::Bits::fewer))]
+    #[inline]
+    fn look_at_digits(&mut self, j: usize, digits: u32) -> Result<(), Clash>
+        requires { j < 3 }
+        ensures { StepsTo self.old.words self.new.words result }
+    {
+        let mut digits = digits;
+        while digits != 0 {
+            let d = digits.trailing_zeros() as usize;
+            digits &= digits - 1;
+            if d < 9 {
+                self.look(d, j)?;
+            }
+        }
+        Ok(())
+    }
+
+    // Looks at words until none has changed. Looking less would lose nothing, so that the bound on the rounds needs no reason.
     #[inline]
     fn look_at_words(&mut self) -> Result<(), Clash>
         ensures { StepsTo self.old.words self.new.words result }
     {
         for _ in 0..1000 {
-            let mut bits = changed(&self.words, &self.seen);
-            if bits == 0 {
+            let digits = changed(&self.words, &self.seen);
+            if digits[0] | digits[1] | digits[2] == 0 {
                 return Ok(());
             }
-            for _ in 0..27 {
-                if bits == 0 {
-                    break;
-                }
-                let t = bits.trailing_zeros() as usize;
-                bits &= bits - 1;
-                if t < 27 {
-                    self.look(t % 9, t / 9)?;
-                }
+            for j in 0..3 {
+                self.look_at_digits(j, digits[j])?;
             }
         }
         Ok(())
@@ -124,39 +133,29 @@ impl Boards {
     // The cells with one digit or more, two or more, three or more.
     #[inline]
     fn counts(&self) -> Counts {
-        let mut counts = Counts {
-            one: [0; 3],
-            two: [0; 3],
-            three: [0; 3],
-        };
-        for j in 0..3 {
-            let mut one = 0;
-            let mut two = 0;
-            let mut three = 0;
-            for d in 0..9 {
+        let mut one = [0; 4];
+        let mut two = [0; 4];
+        let mut three = [0; 4];
+        for d in 0..9 {
+            for j in 0..4 {
                 let word = self.words[4 * d + j];
-                three |= two & word;
-                two |= one & word;
-                one |= word;
+                three[j] |= two[j] & word;
+                two[j] |= one[j] & word;
+                one[j] |= word;
             }
-            counts.one[j] = one;
-            counts.two[j] = two;
-            counts.three[j] = three;
         }
-        counts
+        Counts { one, two, three }
     }
 
     // Looks at the cells of a band that have no digit left, and at those where a digit has come to be the only one.
+    #[tactic(auto, using(crate::proofs::Bits::fewer))]
     #[inline]
     fn look_at_cells(&mut self, j: usize, cells: u32) -> Result<(), Clash>
         requires { j < 3 }
         ensures { StepsTo self.old.words self.new.words result }
     {
         let mut cells = cells;
-        for _ in 0..27 {
-            if cells == 0 {
-                break;
-            }
+        while cells != 0 {
             let i = cells.trailing_zeros();
             cells &= cells - 1;
             if i < 27 {

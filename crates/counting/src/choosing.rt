@@ -52,7 +52,7 @@ impl Choice {
 
 // How many candidates for a digit see a cell, those in cells with two digits five times.
 #[inline]
-fn seen_by(boards: &Boards, pairs: &[u32; 3], d: usize, j: usize, i: u32) -> u32
+fn seen_by(boards: &Boards, pairs: &[u32; 4], d: usize, j: usize, i: u32) -> u32
     requires { (d < 9) × (j < 3) × (i < 27) }
     ensures { result ≤ 480 }
 {
@@ -67,20 +67,14 @@ fn seen_by(boards: &Boards, pairs: &[u32; 3], d: usize, j: usize, i: u32) -> u32
 }
 
 // Of the cells with two digits the one that most candidates for them see, each clash there counting four times.
+#[tactic(auto, using(boards::proofs::Bits::fewer))]
 #[inline(never)]
 fn most_seen(boards: &Boards, counts: &Counts, clashes: &Clashes) -> Choice {
-    let pairs = [
-        counts.two[0] & !counts.three[0],
-        counts.two[1] & !counts.three[1],
-        counts.two[2] & !counts.three[2],
-    ];
+    let pairs: [u32; 4] = std::array::from_fn(|j| counts.two[j] & !counts.three[j]);
     let mut choice = Choice::none();
     for j in 0..3 {
         let mut cells = pairs[j];
-        for _ in 0..27 {
-            if cells == 0 {
-                break;
-            }
+        while cells != 0 {
             let i = cells.trailing_zeros();
             cells &= cells - 1;
             if i < 27 {
@@ -119,15 +113,13 @@ fn weight_of(candidates: u32, failed: u32) -> u32
 }
 
 // A candidate of the cell or house that has the fewest for its clashes.
+#[tactic(auto, using(boards::proofs::Bits::fewer))]
 #[inline(never)]
 fn lightest(boards: &Boards, counts: &Counts, clashes: &Clashes, attempt: u32) -> Choice {
     let mut choice = Choice::none();
     for j in 0..3 {
         let mut cells = counts.two[j];
-        for _ in 0..27 {
-            if cells == 0 {
-                break;
-            }
+        while cells != 0 {
             let i = cells.trailing_zeros();
             cells &= cells - 1;
             if i < 27 {

@@ -5,5 +5,5 @@ use Rattle.boards.proofs.state.Boards.look_at_words.Given as goal
 abbrev pub invariant-loop : goal.invariant-loop
 invariant-loop l = Keeps l.fn.self.words l.self.words
 
-abbrev pub invariant-loop-2 : goal.invariant-loop-2
-invariant-loop-2 l = Keeps l.fn.self.words l.self.words
+abbrev pub invariant-loop-j : goal.invariant-loop-j
+invariant-loop-j l = Keeps l.fn.self.words l.self.words
