@@ -1,7 +1,7 @@
 -- Bits that are set.
 -- Assumes nothing.
 use mathlib.Core.Path.{◌≡◌, ap, ◌∙◌}
-use mathlib.Core.Logic.{◌⊎◌, inl, inr}
+use mathlib.Core.Logic.{◌⊎◌, inl, inr, ⊎_elim}
 use Prim.Native.Nat.{ℕ, ◌+◌, ◌-◌, ◌*◌, ◌/◌, ◌%◌, ◌^◌, ◌<◌}
 use native.Mathlib.Decide.{ℕ_discrete}
 use native.Mathlib.Omega.{arith}
@@ -9,7 +9,7 @@ use mir.Syntax.{w32}
 use Rattle.std.specs.Prelude.{bit_and, bit_or}
 use Rattle.std.specs.Int.{bit_at, bit_not}
 use Rattle.std.proofs.lemmas.Nat.{shr-shr, and_le_r}
-use Rattle.std.proofs.lemmas.Nat.Bits.{bit_at_and, bit_at_or, bit_at_not, bit_at-lt, bit_at-zero, bit_at_set_other}
+use Rattle.std.proofs.lemmas.Nat.Bits.{bit_at_and, bit_at_or, bit_at_not, bit_at-lt, bit_at-zero, bit_at_set_same, bit_at_set_other}
 use Rattle.boards.specs.Boards.{On}
 
 pub on_left : (a b i : ℕ) → On a i → On (bit_or a b) i
@@ -51,3 +51,6 @@ of_either a b i h = elim (ℕ_discrete (bit_at a i) 1) [
 -- without its lowest bit a word is less
 pub fewer : (n : ℕ) → (n ≡ 0 → ⊥) → bit_and n (n - 1) < n
 fewer n h = omega (arith, and_le_r n (n - 1))
+
+pub lone_on : (k : ℕ) → k < 32 → On (1 * 2 ^ k % 4294967296) k
+lone_on k h = ⊎_elim (λ y. absurd (none_on k y)) (λ y. y) (of_either 0 (1 * 2 ^ k % 4294967296) k (bit_at_set_same w32 0 k h))

@@ -1,10 +1,10 @@
 // The count of the grids that may fit boards, to two. It is made by attempts, each with four times the nodes of the one before, going by where that one failed.
-ghost use Rattle.std.specs.Prelude.{List, ℕ, ◌≡◌, ◌<◌, Some, IfOk};
+ghost use Rattle.std.specs.Prelude.{List, ℕ, ◌≡◌, Some, IfOk};
 ghost use mathlib.Core.Logic.{◌⊎◌};
 
 use super::choosing::choose;
 use super::clashes::Clashes;
-use boards::state::Boards;
+use boards::state::{Boards, Place};
 
 // To how many branches of a node crowded houses are looked for, from the second attempt on.
 const SHALLOW: u32 = 5;
@@ -52,11 +52,9 @@ impl Count {
         }
     }
 
-    // Whether the grid that was found last has a digit byte in a cell.
-    pub fn guesses(&self, cell: usize, byte: u8) -> bool
-        requires { cell < 81 }
-    {
-        self.guess[cell] == byte
+    // Whether the grid that was found last has the digit in its cell.
+    pub fn guesses(&self, place: Place) -> bool {
+        self.guess[27 * place.band + place.cell as usize] == b'1' + place.digit as u8
     }
 
     // The only grid that may fit the boards, or none.
