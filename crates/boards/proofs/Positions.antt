@@ -6,13 +6,17 @@ use Prim.Native.Nat.{ℕ, ◌+◌, ◌*◌, ◌-◌, ◌/◌, ◌%◌, ◌<◌}
 use native.Mathlib.Decide.{dec_lt}
 use native.Mathlib.Omega.{arith}
 use lib.Dec.{eqb}
-use Rattle.grid.specs.Grid.{byte}
+use Rattle.grid.specs.Grid.{byte, is_digit}
 use Rattle.grid.specs.House.{cell_of}
 use Rattle.grid.specs.Completion.{times, Legal}
 use Rattle.grid.proofs.Counting.{tally_find, tally_pair}
 use Rattle.grid.proofs.Completion.{eq_iff, digit_iff}
 use Rattle.grid.proofs.House.{row_cell, column_cell, box_cell}
 use Rattle.boards.specs.Boards.{Has}
+
+-- a legal completion is a legal full grid
+pub without_givens : (g b : List ℕ) → Legal g b → Legal [] b
+without_givens g b l = record { long = l.long; digits = l.digits; keeps = λ c h t. absurd (unfold is_digit in t); once = l.once }
 
 module _ (b : List ℕ) (legal : Legal [] b) where
   -- a cell has some digit

@@ -2,22 +2,26 @@
 -- one that is entered adds the completions of the grid with it.
 -- Assumes nothing.
 use mathlib.Core.Path.{◌≡◌, ap, sym, subst, ◌∙◌}
+use mathlib.Core.Logic.{◌↔◌}
 use mathlib.Core.Bool.{Bool, true, false, not}
 use mathlib.Core.List.{List, ◌++◌, append-nil, append_assoc}
-use Prim.Native.Nat.{ℕ, zero, suc, ◌+◌, ◌*◌, ◌/◌, ◌%◌, ◌≤◌, ◌<◌}
+use Prim.Native.Nat.{ℕ, zero, suc, ◌+◌, ◌*◌, ◌/◌, ◌%◌, ◌^◌, ◌≤◌, ◌<◌}
 use native.Mathlib.Decide.{ℕ_discrete}
 use native.Mathlib.Omega.{arith}
 use lib.Dec.{T, eqb, T_not}
-use lib.ListN.{length, get_or, set, length-set}
-use lib.Seq.{get_or-set_same, get_or-set_other, ext_get_or}
+use lib.ListN.{length, set}
 use Rattle.std.specs.Prelude.{Option}
 use Rattle.grid.specs.Counting.{tick, total, tally}
 use Rattle.grid.specs.Grid.{byte, is_digit}
 use Rattle.grid.specs.Completion.{Legal}
 use Rattle.boards.specs.Boards.{On, Has}
+use Rattle.boards.proofs.Bits.{lone}
+use Rattle.boards.proofs.Positions.{some_digit, without_givens}
 use Rattle.completions.specs.Completions.{completions}
-use Rattle.finding.specs.Search.{found_of, count_of, Adds, is_open, open_cells, ClosedBefore, NextDigit, Bounds, Enters}
+use Rattle.finding.specs.Search.{found_of, count_of, Adds, is_open, open_cells, ClosedBefore, NextDigit, MayHave, Bounds, Enters}
 use Rattle.finding.specs.declared.Found.{Found}
+use Rattle.completions.proofs.ByteOrder.{in_order_same}
+use Rattle.completions.proofs.Completions.{completions_in_order}
 use Rattle.finding.proofs.Finding.{enough}
 use Rattle.finding.proofs.Branches.{below, above, below_none, below_all, below_same, below_above, below_more, with_other, with_iff, is_set, closed_more}
 
@@ -59,27 +63,24 @@ pub record Node (g : List ℕ) (c : ℕ) : Type 0 where
   pub no_digit : T (is_open g c)
   pub before : ClosedBefore g c
 
--- A digit of the cell has been tried: the grid is as before once the cell is blank again, and what was found is followed by the completions with
--- the digits up to this one.
-pub record Tried (g : List ℕ) (c d : ℕ) (only : Option (List ℕ)) (f : Found) (g' : List ℕ) (only' : Option (List ℕ)) (f' : Found) : Type 0 where
-  pub blank_again : set g' c (byte g c) ≡ g
-  pub same : only' ≡ only
-  pub found : Adds f f' (below g c (d + 1))
+-- what is found is followed by the completions of a grid, which are those of another
+pub adds_same : (f f' : Found) (g g' : List ℕ) → ((b : List ℕ) → Legal g b ↔ Legal g' b) → Adds f f' (completions g') → Adds f f' (completions g)
+adds_same f f' g g' i a = subst (Adds f f') (sym (in_order_same (Legal g) (Legal g') (completions g) (completions g') (completions_in_order g) (completions_in_order g') i)) a
+
+-- what is known of a grid is known of one with more digits
+pub bounds_more : (only : Option (List ℕ)) (words g g' : List ℕ) → ((b : List ℕ) → Legal g' b → Legal g b) → Bounds only words g → Bounds only words g'
+bounds_more only words g g' i k = record { fits = λ b l. k.fits b (i b l); single = λ b grid l e. k.single b grid (i b l) e }
 
 module _ (g : List ℕ) (c : ℕ) (n : Node g c) where
-  -- the digits are all that a completion may have in the cell
-  abbrev pub AllDigits : ℕ → Type 0
-  AllDigits digits = (b : List ℕ) (d : ℕ) → Legal g b → d < 9 → byte b c ≡ 49 + d → On digits d
-
   -- digits that are passed over add none
-  over : (digits d r : ℕ) → AllDigits digits → NextDigit digits d r → below g c r ≡ below g c d
+  over : (digits d r : ℕ) → MayHave g c digits → NextDigit digits d r → below g c r ≡ below g c d
   over digits d r all m = below_same g c n.cell d r m.low (λ b k l u v e. m.passed k u v (all b k l (omega (arith, m.high)) e))
 
-  pub first : (f : Found) (digits r : ℕ) → AllDigits digits → NextDigit digits 0 r → Adds f f (below g c r)
+  pub first : (f : Found) (digits r : ℕ) → MayHave g c digits → NextDigit digits 0 r → Adds f f (below g c r)
   first f digits r all m xs e = e ∙ ap found_of (sym (append-nil xs)) ∙ ap (λ ys. found_of (xs ++ ys)) (sym (over digits 0 r all m ∙ below_none g c n.cell))
 
   module _ (f f' : Found) where
-    pub next : (digits d r : ℕ) → AllDigits digits → NextDigit digits d r → Adds f f' (below g c d) → Adds f f' (below g c r)
+    pub next : (digits d r : ℕ) → MayHave g c digits → NextDigit digits d r → Adds f f' (below g c d) → Adds f f' (below g c r)
     next digits d r all m a = subst (Adds f f') (sym (over digits d r all m)) a
 
     pub all_tried : (d : ℕ) → 9 ≤ d → d ≤ 9 → Adds f f' (below g c d) → Adds f f' (completions g)
@@ -91,17 +92,9 @@ module _ (g : List ℕ) (c : ℕ) (n : Node g c) where
         enough (xs ++ below g c d) (above g c d) f' (a xs q) (sym e ∙ t)
         ∙ ap found_of (append_assoc xs (below g c d) (above g c d) ∙ ap (λ ys. xs ++ ys) (sym (below_above g c n.cell n.before d)))
 
-  -- the cell is blank again
-  put_back : (g' : List ℕ) (x : ℕ) → g' ≡ g → set (set g' c x) c (byte g c) ≡ g
-  put_back g' x e =
-      subst (λ y. set (set y c x) c (byte g c) ≡ g) (sym e)
-      (ext_get_or 0 (set (set g c x) c (byte g c)) g (simp length-set) (λ k u. elim (ℕ_discrete k c) [
-        | yes q ↦ subst (λ k. get_or (set (set g c x) c (byte g c)) k 0 ≡ get_or g k 0) (sym q) (get_or-set_same (set g c x) c (byte g c) 0 (simp length-set (omega (arith, n.cell, n.long))))
-        | no m ↦ get_or-set_other (set g c x) c k (byte g c) 0 m ∙ get_or-set_other g c k x 0 m
-      ]))
-
   module _ (d : ℕ) (few : d < 9) where
-    abbrev branch : List ℕ
+    -- the grid with the digit in the cell
+    abbrev pub branch : List ℕ
     branch = set g c (49 + d)
 
     pub fewer_open : open_cells branch < open_cells g
@@ -118,45 +111,43 @@ module _ (g : List ℕ) (c : ℕ) (n : Node g c) where
     closed_branch = closed_more g c n.cell n.before n.long n.no_digit d few
 
     -- a completion of the branch is one of the grid, with the digit
-    of_branch : (b : List ℕ) → Legal branch b → Legal g b × (byte b c ≡ 49 + d)
-    of_branch b l = (with_iff g c n.cell n.before n.long n.no_digit d few b).0 l
+    pub branch_iff : (b : List ℕ) → Legal branch b ↔ (Legal g b × (byte b c ≡ 49 + d))
+    branch_iff = with_iff g c n.cell n.before n.long n.no_digit d few
 
-    -- what is known of the branch
-    module _ (only : Option (List ℕ)) (words : List ℕ) (known : Bounds only words g) where
-      pub same_bounds : Bounds only words branch
-      same_bounds = record { fits = λ b l. known.fits b (of_branch b l).0; single = λ b grid l e. known.single b grid (of_branch b l).0 e }
+    has : (b : List ℕ) → byte b c ≡ 49 + d → Has b d (c / 27) (c % 27)
+    has b e = let q : 27 * (c / 27) + c % 27 ≡ c = omega arith in ap (byte b) q ∙ e
 
-      has : (b : List ℕ) → byte b c ≡ 49 + d → Has b d (c / 27) (c % 27)
-      has b e = let q : 27 * (c / 27) + c % 27 ≡ c = omega arith in ap (byte b) q ∙ e
+    -- where no other digit is left, the completions have it
+    pub only_digit : (digits : ℕ) → digits ≡ 1 * 2 ^ d % 4294967296 → MayHave g c digits → (b : List ℕ) → Legal g b ↔ Legal branch b
+    only_digit digits one may b = (
+      (λ l.
+          let w = some_digit b (without_givens g b l) (c / 27) (c % 27) (omega (arith, n.cell)) (omega arith) in
+          let q : 27 * (c / 27) + c % 27 ≡ c = omega arith in
+          let there : byte b c ≡ 49 + w.0 = sym (ap (byte b) q) ∙ w.2 in
+          let e : w.0 ≡ d = lone d w.0 (omega arith) (subst (λ x. On x w.0) one (may b w.0 l w.1 there)) in
+          (branch_iff b).1 (l, there ∙ ap (λ x. 49 + x) e)),
+      λ l. ((branch_iff b).0 l).0,
+    )
 
-      pub branch_bounds : (words' : List ℕ) (entered : Bool) → Enters words words' d (c / 27) (c % 27) entered → Bounds only words' branch
-      branch_bounds words' entered enters = record {
-        fits = λ b l. let w = of_branch b l in (enters b (known.fits b w.0) (has b w.1)).1;
-        single = λ b grid l e. known.single b grid (of_branch b l).0 e;
+    module _ (only : Option (List ℕ)) (words : List ℕ) (known : Bounds only words g) (words' : List ℕ) (entered : Bool) (enters : Enters words words' d (c / 27) (c % 27) entered) where
+      -- what is known of a branch that is entered
+      pub branch_bounds : Bounds only words' branch
+      branch_bounds = record {
+        fits = λ b l. let w = (branch_iff b).0 l in (enters b (known.fits b w.0) (has b w.1)).1;
+        single = λ b grid l e. known.single b grid ((branch_iff b).0 l).0 e;
       }
 
-      pub not_entered : (words' : List ℕ) (entered : Bool) → Enters words words' d (c / 27) (c % 27) entered → entered ≡ false → (b : List ℕ) → Legal g b → byte b c ≡ 49 + d → ⊥
-      not_entered words' entered enters e b l q =
-          let t = (enters b (known.fits b l) (has b q)).0 in
-          let z : false ≡ true = sym e ∙ t in
-          let x : ◌≡◌ {A = ℕ} 0 1 = cc in omega arith
+      -- one that is not adds none,
+      pub passed : (f f' : Found) → entered ≡ false → Adds f f' (below g c d) → Adds f f' (below g c (d + 1))
+      passed f f' e a =
+          subst (Adds f f')
+          (sym (below_same g c n.cell d (d + 1) (omega arith) (λ b k l u v z.
+          let s : k ≡ d = omega arith in
+          let t = (enters b (known.fits b l) (has b (z ∙ ap (λ k. 49 + k) s))).0 in
+          let x : false ≡ true = sym e ∙ t in cc))) a
 
-    module _ (only : Option (List ℕ)) (f : Found) (g' : List ℕ) (only' : Option (List ℕ)) (f' : Found) (e : g' ≡ g) (o : only' ≡ only) (a : Adds f f' (below g c d)) where
-      -- a branch that is entered adds its completions,
-      pub entered : (g'' : List ℕ) (only'' : Option (List ℕ)) (f'' : Found) → g'' ≡ set g' c (49 + d) → only'' ≡ only' → Adds f' f'' (completions (set g' c (49 + d))) → Tried g c d only f g'' only'' f''
-      entered g'' only'' f'' p q r = record {
-        blank_again = ap (λ x. set x c (byte g c)) p ∙ put_back g' (49 + d) e;
-        same = q ∙ o;
-        found = λ xs z.
-            r (xs ++ below g c d) (a xs z)
-            ∙ ap found_of (ap (λ x. (xs ++ below g c d) ++ completions (set x c (49 + d))) e ∙ append_assoc xs (below g c d) (completions branch)
-            ∙ ap (λ ys. xs ++ ys) (sym (below_more g c n.cell n.before n.long n.no_digit d few)));
-      }
-
-      -- and one that is not, since no completion has the digit, adds none
-      pub passed : ((b : List ℕ) → Legal g b → byte b c ≡ 49 + d → ⊥) → Tried g c d only f (set g' c (49 + d)) only' f'
-      passed x = record {
-        blank_again = put_back g' (49 + d) e;
-        same = o;
-        found = subst (Adds f f') (sym (below_same g c n.cell d (d + 1) (omega arith) (λ b k l u v z. let s : k ≡ d = omega arith in x b l (z ∙ ap (λ k. 49 + k) s)))) a;
-      }
+    -- and one that is entered adds its completions
+    pub tried : (f f' f'' : Found) → Adds f f' (below g c d) → Adds f' f'' (completions branch) → Adds f f'' (below g c (d + 1))
+    tried f f' f'' a r xs z =
+        r (xs ++ below g c d) (a xs z)
+        ∙ ap found_of (append_assoc xs (below g c d) (completions branch) ∙ ap (λ ys. xs ++ ys) (sym (below_more g c n.cell n.before n.long n.no_digit d few)))

@@ -1,10 +1,11 @@
 -- The search: what it finds, and what it knows on the way.
-use Rattle.std.specs.Prelude.{◌≡◌, not, List, [], ◌∷◌, ◌++◌, ℕ, ◌≤◌, ◌<◌, replicate, T, IsTrue, Bool, Option, Some, MatchOption}
+use Rattle.std.specs.Prelude.{◌+◌, ◌≡◌, not, List, [], ◌∷◌, ◌++◌, ℕ, ◌≤◌, ◌<◌, replicate, T, IsTrue, Bool, Option, Some, MatchOption, ◌↔◌}
 use Rattle.grid.specs.Counting.{tally}
 use Rattle.grid.specs.Grid.{byte, is_digit}
 use Rattle.grid.specs.Completion.{Legal}
 use Rattle.boards.specs.Boards.{On, Has, Fits}
 use Rattle.finding.specs.declared.Found.{Found}
+use Rattle.finding.specs.declared.Open.{Open}
 use Rattle.finding.specs.declared.Found.TheVariants.{Nothing, One, Several}
 
 -- 81 zero bytes: what stands for no completion
@@ -51,10 +52,6 @@ open_cells g = tally 81 (is_open g)
 abbrev pub ClosedBefore : List ℕ → ℕ → Type 0
 ClosedBefore g c = (k : ℕ) → k < c → T (is_digit (byte g k))
 
--- the first open cell; or none, where all have digits
-abbrev pub FirstOpen : List ℕ → Option ℕ → Type 0
-FirstOpen g r = MatchOption r (ClosedBefore g 81) (λ c. (c < 81) × T (is_open g c) × ClosedBefore g c)
-
 -- the next digit of some that are given by bits, from one on, or 9: none is passed over
 pub record NextDigit (digits from r : ℕ) : Type 0 where
   pub low : from ≤ r
@@ -65,6 +62,18 @@ pub record NextDigit (digits from r : ℕ) : Type 0 where
 pub record Bounds (only : Option (List ℕ)) (words g : List ℕ) : Type 0 where
   pub fits : (b : List ℕ) → Legal g b → Fits words b
   pub single : (b grid : List ℕ) → Legal g b → only ≡ Some grid → grid ≡ b
+
+-- Among the digits are all that a completion has in a cell.
+abbrev pub MayHave : List ℕ → ℕ → ℕ → Type 0
+MayHave g c digits = (b : List ℕ) (d : ℕ) → Legal g b → d < 9 → byte b c ≡ 49 + d → On digits d
+
+-- Cells have got their digits, and no completion is lost. Either no cell is open then, or this is the first open cell.
+pub record Fills (old new : List ℕ) (r : Option Open) : Type 0 where
+  pub legal : (b : List ℕ) → Legal old b ↔ Legal new b
+  pub fewer : open_cells new ≤ open_cells old
+  pub first :
+      MatchOption r (ClosedBefore new 81)
+      (λ x. (x.cell < 81) × T (is_open new x.cell) × ClosedBefore new x.cell × MayHave new x.cell x.digits)
 
 -- What fits and has the digit in the cell fits then, and its branch is entered.
 abbrev pub Enters : List ℕ → List ℕ → ℕ → ℕ → ℕ → Bool → Type 0

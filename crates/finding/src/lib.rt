@@ -3,7 +3,7 @@
 //
 //     find      the search for a grid's completions
 //     Found     what it has found: none, one, or the smallest two
-//     cells     the first open cell, and the next digit to try
+//     digits    the next digit to try
 //     tests     the test of a branch
 //     solved    the test of a grid with no open cell
 #![tactic(auto)]
@@ -14,13 +14,13 @@ ghost use Rattle.finding.specs.Search.{found_of};
 
 use boards::start::start;
 use boards::state::{Boards, Place};
-use cells::{first_open, next_digit};
 use counting::attempts::{Count, Stop};
+use digits::next_digit;
 use grid::legal::is_digit;
 use solved::is_solved;
 use tests::Tests;
 
-pub mod cells;
+pub mod digits;
 pub mod solved;
 pub mod tests;
 
@@ -55,29 +55,29 @@ impl Found {
     }
 }
 
-// What a search works with: the grid with the digits of the branches that it is in, what is found so far, the one grid that may complete the grid, if so
-// much is known, and the test of its branches.
+// The first open cell of a grid, and the digits that a completion may have there, a bit for each.
+#[derive(Clone, Copy)]
+struct Open {
+    cell: usize,
+    digits: u32,
+}
+
+// What a search works with: what is found so far, the one grid that may complete the grid, if so much is known, and the test of a branch.
 #[derive(Drop)]
 struct Search {
-    grid: [u8; 81],
     found: Found,
     only: Option<[u8; 81]>,
     tests: Tests,
 }
 
 impl Search {
-    ghost use Rattle.std.specs.Prelude.{◌+◌};
-    ghost use Rattle.grid.specs.Grid.{byte};
-    ghost use Rattle.grid.specs.Completion.{Legal};
-    ghost use Rattle.boards.specs.Boards.{On};
-    ghost use Rattle.finding.specs.Search.{Adds, Bounds, ClosedBefore};
+    ghost use Rattle.finding.specs.Search.{Adds, Bounds, ClosedBefore, MayHave, Fills};
 
     // The digits that a completion may have in a cell, a bit for each.
     #[inline]
     fn digits_at(&self, boards: &Boards, cell: usize) -> u32
-        requires { Bounds self.now.only boards.now.words self.now.grid × (cell < 81) }
-        ensures { (b : List ℕ) (d : ℕ) → Legal self.now.grid b → d < 9 →
-            byte b cell ≡ 49 + d → On result d }
+        requires { cell < 81 }
+        ensures { (g : List ℕ) → Bounds self.now.only boards.now.words g → MayHave g cell result }
     {
         match &self.only {
             Some(only) if is_digit(only[cell]) => 1 << (only[cell] - b'1') as u32,
@@ -86,41 +86,54 @@ impl Search {
         }
     }
 
-    // All completions of the grid, after those that are found before: each digit of the first open cell is tried, until two are found. With one grid left
-    // its digits are followed, and every branch beside it is passed over.
-    fn explore(&mut self, boards: &Boards, from: usize)
-        requires bounds { Bounds self.old.only boards.now.words self.old.grid }
-        requires closed { (from ≤ 81) × ClosedBefore self.old.grid from }
-        ensures found { Adds self.old.found self.new.found (completions self.old.grid) }
-        ensures kept { (self.new.grid ≡ self.old.grid) × (self.new.only ≡ self.old.only) }
+    // Gives open cells their digits, in which one is left, up to the first in which more are left, or none.
+    fn fill(&self, grid: &mut [u8; 81], boards: &Boards, from: usize) -> Option<Open>
+        requires bounds { Bounds self.now.only boards.now.words grid.old }
+        requires closed { (from ≤ 81) × ClosedBefore grid.old from }
+        ensures { Fills grid.old grid.new result }
     {
-        let Some(cell) = first_open(&self.grid, from) else {
-            if is_solved(&self.grid) {
-                self.found.add(&self.grid);
+        for cell in from..81 {
+            if !is_digit(grid[cell]) {
+                let digits = self.digits_at(boards, cell);
+                let digit = digits.trailing_zeros();
+                if 9 <= digit || digits != 1 << digit {
+                    return Some(Open { cell, digits });
+                }
+                grid[cell] = b'1' + digit as u8;
+            }
+        }
+        None
+    }
+
+    // All completions of a grid, after those that are found before: each digit of the first open cell is tried, until two are found.
+    fn explore(&mut self, grid: &[u8; 81], boards: &Boards, from: usize)
+        requires bounds { Bounds self.old.only boards.now.words grid.now }
+        requires closed { (from ≤ 81) × ClosedBefore grid.now from }
+        ensures found { Adds self.old.found self.new.found (completions grid.now) }
+        ensures kept { self.new.only ≡ self.old.only }
+    {
+        let mut filled = *grid;
+        let Some(Open { cell, digits }) = self.fill(&mut filled, boards, from) else {
+            if is_solved(&filled) {
+                self.found.add(&filled);
             }
             return;
         };
-        let blank = self.grid[cell];
-        let digits = self.digits_at(boards, cell);
         let mut digit = next_digit(digits, 0);
         while digit < 9 {
-            self.grid[cell] = b'1' + digit as u8;
-            if self.only.is_some() {
-                self.explore(boards, cell + 1);
-            } else {
-                let mut next = *boards;
-                let place = Place {
-                    digit: digit as usize,
-                    band: cell / 27,
-                    cell: (cell % 27) as u32,
-                };
-                if self.tests.enters(&mut next, place) {
-                    self.explore(&next, cell + 1);
+            let mut branch = filled;
+            branch[cell] = b'1' + digit as u8;
+            let mut next = *boards;
+            let place = Place {
+                digit: digit as usize,
+                band: cell / 27,
+                cell: (cell % 27) as u32,
+            };
+            if self.tests.enters(&mut next, place) {
+                self.explore(&branch, &next, cell + 1);
+                if self.found.is_several() {
+                    return;
                 }
-            }
-            self.grid[cell] = blank;
-            if self.found.is_several() {
-                return;
             }
             digit = next_digit(digits, digit + 1);
         }
@@ -141,11 +154,10 @@ pub fn find(grid: &[u8; 81]) -> Found
         Err(Stop) => None,
     };
     let mut search = Search {
-        grid: *grid,
         found: Found::Nothing,
         only,
         tests: Tests::new(count),
     };
-    search.explore(&boards, 0);
+    search.explore(grid, &boards, 0);
     search.found
 }

@@ -1,20 +1,19 @@
 -- At first every digit may stand in every cell. A given is in each completion, and alone in its cell.
 use mathlib.Core.Path.{◌≡◌, sym, subst, ◌∙◌}
 use mathlib.Core.Bool.{Bool, ◌||◌}
-use mathlib.Core.List.{List, []}
 use Prim.Native.Nat.{ℕ, ◌+◌, ◌*◌, ◌-◌, ◌%◌, ◌≤◌, ◌<◌}
 use native.Mathlib.Omega.{arith}
 use lib.Dec.{T, eqb}
 use lib.ListN.{get_or}
 use Rattle.std.proofs.lemmas.Nat.Bits.{bit_at_ones}
 use Rattle.grid.specs.Grid.{byte, is_digit}
-use Rattle.grid.specs.Completion.{Legal}
 use Rattle.grid.proofs.Table.{every, at}
 use Rattle.grid.proofs.Completion.{digit_iff, eq_iff}
 use Rattle.boards.specs.Boards.{On, Has, HasAll, Fits}
 use Rattle.boards.specs.declared.start.TheConstants.{EVERYWHERE}
 use Rattle.boards.proofs.Tests.{by_test, holds}
 use Rattle.boards.proofs.Bits.{lone}
+use Rattle.boards.proofs.Positions.{without_givens}
 use Rattle.boards.proofs.start.start.Goals.{then-is_digit, else-is_digit}
 use Rattle.boards.proofs.start.start.Goals as goal
 
@@ -34,16 +33,12 @@ whole d j few band =
     (λ u. absurd (omega (arith, (eq_iff ((4 * d + j) % 4) 3).0 u)))
     (λ u. (eq_iff _ 134217727).0 u)
 
--- a legal completion, without its givens
-full : (g b : List ℕ) → Legal g b → Legal [] b
-full g b l = record { long = l.long; digits = l.digits; keeps = λ c h t. absurd (unfold is_digit in t); once = l.once }
-
 bounds : (b : ℕ) → T (is_digit b) → (49 ≤ b) × (b ≤ 57)
 bounds b t = (digit_iff b).0 t
 
 pub loop-j-init : goal.loop-j-init
 loop-j-init c b l = record {
-  legal = full c.args.grid.now b l;
+  legal = without_givens c.args.grid.now b l;
   covered = λ d j few band i h y. subst (λ x. On x i) (sym (whole d j few band)) (bit_at_ones 27 i h);
 }
 

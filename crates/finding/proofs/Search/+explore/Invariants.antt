@@ -7,10 +7,10 @@ use Rattle.finding.proofs.Search.+explore.Given as goal
 
 -- the number of open cells falls
 abbrev pub decreases-explore : goal.decreases-explore
-decreases-explore l = open_cells l.self.now.grid
+decreases-explore l = open_cells l.grid.now
 
 abbrev pub invariant-loop-digit : goal.invariant-loop-digit
-invariant-loop-digit l = (l.digit ≤ 9) × (l.self.grid ≡ l.fn.self.grid) × (l.self.only ≡ l.fn.self.only) × Adds l.fn.self.found l.self.found (below l.fn.self.grid l.cell l.digit)
+invariant-loop-digit l = (l.digit ≤ 9) × (l.self.only ≡ l.fn.self.only) × Adds l.fn.self.found l.self.found (below l.filled l.cell l.digit)
 
 abbrev pub decreases-loop-digit : goal.decreases-loop-digit
 decreases-loop-digit l = 9 - l.digit

@@ -9,7 +9,7 @@ use Rattle.std.specs.Int.{trailing_zeros}
 use Rattle.std.proofs.lemmas.Nat.Bits.{bit_at-trailing_zeros}
 use Rattle.boards.specs.Boards.{On}
 use Rattle.boards.proofs.Bits.{none_on, on_shifted}
-use Rattle.finding.proofs.cells.next_digit.Goals as goal
+use Rattle.finding.proofs.digits.next_digit.Goals as goal
 
 -- below the lowest bit of a number that is shifted none is set
 passed : (digits from d : ℕ) → digits / 2 ^ from < 2 ^ 32 → from ≤ d → d - from < trailing_zeros w32 (digits / 2 ^ from) → On digits d → ⊥
