@@ -38,11 +38,13 @@ pub struct Count {
 }
 
 impl Count {
-    ghost use Rattle.std.specs.Prelude.{◌≤◌};
-    ghost use Rattle.boards.specs.Boards.{Only};
+    ghost use Rattle.std.specs.Prelude.{◌↔◌, ◌≤◌, replicate, IsTrue};
+    ghost use Rattle.boards.specs.Boards.{Has, Only};
 
-    // With nothing found.
-    pub fn new() -> Count {
+    // With no grid found.
+    pub fn new() -> Count
+        ensures { result.guess ≡ replicate 81 0 }
+    {
         Count {
             nodes: 0,
             enough: false,
@@ -53,7 +55,9 @@ impl Count {
     }
 
     // Whether the grid that was found last has the digit in its cell.
-    pub fn guesses(&self, place: Place) -> bool {
+    pub fn guesses(&self, place: Place) -> bool
+        ensures { IsTrue result ↔ Has self.now.guess place.digit place.band place.cell }
+    {
         self.guess[27 * place.band + place.cell as usize] == b'1' + place.digit as u8
     }
 

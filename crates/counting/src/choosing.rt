@@ -150,7 +150,12 @@ fn lightest(boards: &Boards, counts: &Counts, clashes: &Clashes, attempt: u32) -
 }
 
 // A place that is not the only one of its cell, unless every cell has one digit at most.
-pub fn choose(boards: &Boards, counts: &Counts, clashes: &Clashes, attempt: u32) -> Option<Place> {
+pub(crate) fn choose(
+    boards: &Boards,
+    counts: &Counts,
+    clashes: &Clashes,
+    attempt: u32,
+) -> Option<Place> {
     if attempt == 0 {
         let choice = most_seen(boards, counts, clashes);
         if 0 < choice.weight {

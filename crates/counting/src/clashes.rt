@@ -12,7 +12,7 @@ pub struct Clashes {
 
 impl Clashes {
     // None yet.
-    pub fn new() -> Clashes {
+    pub(crate) fn new() -> Clashes {
         Clashes {
             words: [0; 36],
             cells: [0; 81],
@@ -20,7 +20,7 @@ impl Clashes {
     }
 
     // One more.
-    pub fn add(&mut self, clash: Clash) {
+    pub(crate) fn add(&mut self, clash: Clash) {
         let at = clash.at;
         if at < 36 {
             self.words[at] = self.words[at].saturating_add(1);
@@ -31,7 +31,7 @@ impl Clashes {
 
     // Those at a word.
     #[inline]
-    pub fn at_word(&self, word: usize) -> u32
+    pub(crate) fn at_word(&self, word: usize) -> u32
         requires { word < 36 }
         ensures { result < 65536 }
     {
@@ -40,7 +40,7 @@ impl Clashes {
 
     // Those at a cell.
     #[inline]
-    pub fn at_cell(&self, cell: usize) -> u32
+    pub(crate) fn at_cell(&self, cell: usize) -> u32
         requires { cell < 81 }
         ensures { result < 65536 }
     {

@@ -1,11 +1,8 @@
 // The complete search: branching on the first open cell, digits rising, so that completions are found in byte order. Each branch has fewer cells open. A
 // branch is entered unless it is known to have no completion: boards know it, which all completions fit, or a count of the grids that may fit them.
 //
-//     find      the search for a grid's completions
-//     Found     what it has found: none, one, or the smallest two
-//     digits    the next digit to try
-//     tests     the test of a branch
-//     solved    the test of a grid with no open cell
+//     find     the search for a grid's completions
+//     Found    what it has found: none, one, or the smallest two
 #![tactic(auto)]
 
 ghost use Rattle.std.specs.Prelude.{◌≡◌, List, [], ◌∷◌, ℕ, ◌≤◌, ◌<◌, eqb};
@@ -14,15 +11,15 @@ ghost use Rattle.finding.specs.Search.{found_of};
 
 use boards::start::start;
 use boards::state::{Boards, Place};
+use branch_test::BranchTest;
 use counting::attempts::{Count, Stop};
 use digits::next_digit;
 use grid::legal::is_digit;
 use solved::is_solved;
-use tests::Tests;
 
-pub mod digits;
-pub mod solved;
-pub mod tests;
+mod branch_test;
+mod digits;
+mod solved;
 
 // What a search has found: no completion, one, or several, of which these are the smallest two in byte order.
 #[derive(Drop)]
@@ -67,7 +64,7 @@ struct Open {
 struct Search {
     found: Found,
     only: Option<[u8; 81]>,
-    tests: Tests,
+    test: BranchTest,
 }
 
 impl Search {
@@ -129,7 +126,7 @@ impl Search {
                 band: cell / 27,
                 cell: (cell % 27) as u32,
             };
-            if self.tests.enters(&mut next, place) {
+            if self.test.enters(&mut next, place) {
                 self.explore(&branch, &next, cell + 1);
                 if self.found.is_several() {
                     return;
@@ -156,7 +153,7 @@ pub fn find(grid: &[u8; 81]) -> Found
     let mut search = Search {
         found: Found::Nothing,
         only,
-        tests: Tests::new(count),
+        test: BranchTest::new(count),
     };
     search.explore(grid, &boards, 0);
     search.found

@@ -1,5 +1,6 @@
 // The test of a branch, which shows of some branches that they have no completion. First a few branches are entered where boards do not show it at once:
 // where there are many completions, two are soon found so. Then the grids that may fit are counted, unless the last grid that a count found has the digit.
+ghost use Rattle.std.specs.Prelude.{◌≡◌};
 ghost use Rattle.finding.specs.Search.{Enters};
 
 use boards::state::{Boards, Place};
@@ -10,22 +11,24 @@ const UNTESTED: u32 = 100;
 
 // The count, with what it has learned, and how many branches are entered yet without it.
 #[derive(Drop)]
-pub struct Tests {
+pub struct BranchTest {
     count: Count,
     untested: u32,
 }
 
-impl Tests {
+impl BranchTest {
     // With a count that may have been used.
-    pub fn new(count: Count) -> Tests {
-        Tests {
+    pub(crate) fn new(count: Count) -> BranchTest
+        ensures { result.count ≡ count }
+    {
+        BranchTest {
             count,
             untested: UNTESTED,
         }
     }
 
     // Whether the branch is entered of a digit in a cell; the boards are then those of the branch.
-    pub fn enters(&mut self, boards: &mut Boards, place: Place) -> bool
+    pub(crate) fn enters(&mut self, boards: &mut Boards, place: Place) -> bool
         ensures { Enters boards.old.words boards.new.words place.digit place.band place.cell result }
     {
         boards.place(place);
