@@ -1,0 +1,9 @@
+-- Each look keeps what fits.
+use Rattle.boards.specs.Boards.{Keeps}
+use Rattle.boards.proofs.state.Boards.settle.Given as goal
+
+abbrev pub invariant-loop : goal.invariant-loop
+invariant-loop l = Keeps l.fn.self.words l.self.words
+
+abbrev pub invariant-loop-j : goal.invariant-loop-j
+invariant-loop-j l = Keeps l.fn.self.words l.self.words

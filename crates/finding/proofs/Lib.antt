@@ -1,0 +1,4 @@
+pub mod Finding
+mod Branches
+mod Exploring
+mod AllDigits
