@@ -40,7 +40,7 @@ impl Found {
     }
 
     // One more, which comes after those before.
-    #[tactic(auto, using(crate::proofs::Finding::nothing_first, crate::proofs::Finding::one_one, crate::proofs::Finding::several_first), unfolding(crate::specs::Search::found_of))]
+    #[tactic(auto, using(crate::proofs::Finding::one_first, crate::proofs::Finding::one_second, crate::proofs::Finding::several_first))]
     fn add(&mut self, grid: &[u8; 81])
         ensures { Adds self.old self.new (grid.now ∷ []) }
     {

@@ -49,7 +49,8 @@ explore-requires t c =
     let few = c.loop-digit-test.true in
     let only = c.args.self.now.only in
     let known = bounds_more only c.args.boards.now.words c.args.grid.now g (λ b. (f.legal b).1) c.requires.bounds in
-    let branch = branch_bounds g x.cell n d few only c.args.boards.now.words known c.enters.new.boards.words c.in_ok-enters.field-0 c.in_ok-enters.ensures.entered in (
+    let branch =
+    branch_bounds g x.cell n d few only c.args.boards.now.words known c.enters.new.boards.words c.in_ok-enters.field-0 c.in_ok-enters.ensures.entered in (
       omega (arith, c.decreases, f.fewer, fewer_open g x.cell n d few),
       (
         subst (λ o. Bounds o c.enters.new.boards.words (set g x.cell (49 + d))) (sym c.loop-digit.invariant.1) branch,
@@ -97,7 +98,8 @@ loop-digit-preserved t c =
             r.ensures.high,
             i.1,
             c.in_ok-enters.ensures.kept ∙ i.2,
-            then_next c.loop-digit.self.found (passed g x.cell n d few only c.args.boards.now.words known c.enters.new.boards.words c.in_ok-enters.field-0 c.in_ok-enters.ensures.entered old c.loop-digit.self.found w.if-branch.false i.3),
+            then_next c.loop-digit.self.found
+                (passed g x.cell n d few only c.args.boards.now.words known c.enters.new.boards.words c.in_ok-enters.field-0 c.in_ok-enters.ensures.entered old c.loop-digit.self.found w.if-branch.false i.3),
           )
           )
     ]
