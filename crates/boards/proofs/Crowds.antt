@@ -46,7 +46,9 @@ module _ (digits : ℕ) (b : List ℕ) (house : ℕ) (h : house < 27) where
           let w = some_digit b f.legal (cell / 27) (cell % 27) (omega arith) (omega arith) in
           let c : 27 * (cell / 27) + cell % 27 ≡ cell_of house k = omega arith in
           let d : w.0 ≡ byte b (cell_of house k) - 49 = let q = subst (λ x. byte b x ≡ 49 + w.0) c w.2 in omega arith in
-          none_on w.0 (subst (λ x. On x w.0) none (on_both found digits w.0 (all w.0 w.1 (f.covered w.0 (cell / 27) w.1 (omega arith) (cell % 27) (omega arith) w.2)) (subst (On digits) (sym d) ((eq_iff _ 1).0 t))))
+          none_on w.0 (subst (λ x. On x w.0) none
+          (on_both found digits w.0 (all w.0 w.1 (f.covered w.0 (cell / 27) w.1 (omega arith) (cell % 27) (omega arith) w.2))
+          (subst (On digits) (sym d) ((eq_iff _ 1).0 t))))
 
       go : (x : Bool) → has_chosen digits b house k ≡ x → tick x ≡ 0
       go false q = refl

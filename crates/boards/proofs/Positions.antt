@@ -85,7 +85,11 @@ module _ (b : List ℕ) (legal : Legal [] b) where
     pub same_box : (j i k : ℕ) → j < 3 → i < 27 → k < 27 → i % 9 / 3 ≡ k % 9 / 3 → Has b d j i → Has b d j k → i ≡ k
     same_box j i k h x y e p q =
         let f : i % 9 / 3 < 3 = omega arith in
-        let u : 27 * j + i ≡ cell_of (18 + (3 * j + i % 9 / 3)) (3 * (i / 9) + i % 9 % 3) = omega (arith, box_cell (3 * (i / 9) + i % 9 % 3) j (i % 9 / 3) h f) in
-        let v : 27 * j + k ≡ cell_of (18 + (3 * j + i % 9 / 3)) (3 * (k / 9) + k % 9 % 3) = omega (arith, box_cell (3 * (k / 9) + k % 9 % 3) j (i % 9 / 3) h f) in
-        let s = once (18 + (3 * j + i % 9 / 3)) (3 * (i / 9) + i % 9 % 3) (3 * (k / 9) + k % 9 % 3) (omega arith) (omega arith) (omega arith) (sym (ap at u) ∙ p) (sym (ap at v) ∙ q) in
+        let u : 27 * j + i ≡ cell_of (18 + (3 * j + i % 9 / 3)) (3 * (i / 9) + i % 9 % 3) =
+        omega (arith, box_cell (3 * (i / 9) + i % 9 % 3) j (i % 9 / 3) h f) in
+        let v : 27 * j + k ≡ cell_of (18 + (3 * j + i % 9 / 3)) (3 * (k / 9) + k % 9 % 3) =
+        omega (arith, box_cell (3 * (k / 9) + k % 9 % 3) j (i % 9 / 3) h f) in
+        let s =
+        once (18 + (3 * j + i % 9 / 3)) (3 * (i / 9) + i % 9 % 3) (3 * (k / 9) + k % 9 % 3) (omega arith) (omega arith) (omega arith)
+        (sym (ap at u) ∙ p) (sym (ap at v) ∙ q) in
         omega arith

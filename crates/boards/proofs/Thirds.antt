@@ -43,9 +43,13 @@ module _ (a : ℕ) where
   folded = bit_or (bit_or marked (marked / 256)) (marked / 65536)
 
   fold : (r t : ℕ) → r < 3 → On marked (9 * r + 3 * t) → On folded (3 * t + r)
-  fold zero t h y = on_left (bit_or marked (marked / 256)) (marked / 65536) (3 * t + 0) (on_left marked (marked / 256) (3 * t + 0) (subst (On marked) (omega arith) y))
-  fold (suc zero) t h y = on_left (bit_or marked (marked / 256)) (marked / 65536) (3 * t + 1) (on_right marked (marked / 256) (3 * t + 1) (on_shifted marked 8 (3 * t + 1) (subst (On marked) (omega arith) y)))
-  fold (suc (suc zero)) t h y = on_right (bit_or marked (marked / 256)) (marked / 65536) (3 * t + 2) (on_shifted marked 16 (3 * t + 2) (subst (On marked) (omega arith) y))
+  fold zero t h y =
+      on_left (bit_or marked (marked / 256)) (marked / 65536) (3 * t + 0) (on_left marked (marked / 256) (3 * t + 0) (subst (On marked) (omega arith) y))
+  fold (suc zero) t h y =
+      on_left (bit_or marked (marked / 256)) (marked / 65536) (3 * t + 1)
+      (on_right marked (marked / 256) (3 * t + 1) (on_shifted marked 8 (3 * t + 1) (subst (On marked) (omega arith) y)))
+  fold (suc (suc zero)) t h y =
+      on_right (bit_or marked (marked / 256)) (marked / 65536) (3 * t + 2) (on_shifted marked 16 (3 * t + 2) (subst (On marked) (omega arith) y))
   fold (suc (suc (suc r))) t h y = absurd (omega arith)
 
   pub is_thirds : IsThirds a (bit_and folded 511)

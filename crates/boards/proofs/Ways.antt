@@ -40,11 +40,15 @@ module _ (b : List ℕ) (legal : Legal [] b) (d j : ℕ) (few : d < 9) (band : j
   unfolding way
   way_below = omega (arith, row0.1, row1.1, row2.1)
 
+  -- the digit stands in no other cell of the row
+  same_cell : (r k : ℕ) (w : (m : ℕ) × (m < 9) × Has b d j (9 * r + m)) → r < 3 → k < 9 → Has b d j (9 * r + k) → k ≡ w.0
+  same_cell r k w h l y = omega (arith, w.1, same_row b legal d few j (9 * r + k) (9 * r + w.0) band (omega arith) (omega (arith, w.1)) (omega (arith, w.1)) y w.2)
+
   third_is : (r k : ℕ) → r < 3 → k < 9 → Has b d j (9 * r + k) → third way r ≡ k / 3
   unfolding way
-  third_is zero k h l y = omega (arith, row0.1, row1.1, row2.1, same_row b legal d few j (9 * 0 + k) (9 * 0 + row0.0) band (omega arith) (omega (arith, row0.1)) (omega (arith, row0.1)) y row0.2)
-  third_is (suc zero) k h l y = omega (arith, row0.1, row1.1, row2.1, same_row b legal d few j (9 * 1 + k) (9 * 1 + row1.0) band (omega arith) (omega (arith, row1.1)) (omega (arith, row1.1)) y row1.2)
-  third_is (suc (suc zero)) k h l y = omega (arith, row0.1, row1.1, row2.1, same_row b legal d few j (9 * 2 + k) (9 * 2 + row2.0) band (omega arith) (omega (arith, row2.1)) (omega (arith, row2.1)) y row2.2)
+  third_is zero k h l y = omega (arith, row0.1, row1.1, row2.1, same_cell 0 k row0 h l y)
+  third_is (suc zero) k h l y = omega (arith, row0.1, row1.1, row2.1, same_cell 1 k row1 h l y)
+  third_is (suc (suc zero)) k h l y = omega (arith, row0.1, row1.1, row2.1, same_cell 2 k row2 h l y)
   third_is (suc (suc (suc r))) k h l y = absurd (omega arith)
 
   -- each cell of the digit is in the way,

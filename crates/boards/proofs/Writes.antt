@@ -33,7 +33,8 @@ module _ (words b : List ℕ) (d j x : ℕ) (long : length words ≡ 36) (few : 
       go e k h l q i m y (yes s) =
           let t : e ≡ d = omega arith in
           let u : k ≡ j = omega arith in
-          rw (s, get_or-set_same words (4 * d + j) x 0 (omega arith)) (here (subst (λ z. Q z j) t (subst (Q e) u q)) i m (subst (λ z. Has b z j i) t (subst (λ z. Has b e z i) u y)))
+          rw (s, get_or-set_same words (4 * d + j) x 0 (omega arith))
+          (here (subst (λ z. Q z j) t (subst (Q e) u q)) i m (subst (λ z. Has b z j i) t (subst (λ z. Has b e z i) u y)))
       go e k h l q i m y (no n) =
           rw (get_or-set_other words (4 * d + j) (4 * e + k) x 0 n)
           (f.covered e k h l (more e k q (λ t u. n (omega (arith, t, u)))) i m y)

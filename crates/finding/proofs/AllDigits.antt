@@ -70,7 +70,8 @@ module _ (g : List ℕ) (long : length g ≡ 81) (full : ClosedBefore g 81) wher
   unfolding times
   once h all =
       square_rows 9 (λ d k. stands (λ k. byte g (cell_of h k)) d k) all
-      (λ k few. tally_most (λ d. stands (λ k. byte g (cell_of h k)) d k) 9 (λ d e l m t u. let p = (eq_iff _ (49 + d)).0 t in let q = (eq_iff _ (49 + e)).0 u in omega arith))
+      (λ k few. tally_most (λ d. stands (λ k. byte g (cell_of h k)) d k) 9
+      (λ d e l m t u. let p = (eq_iff _ (49 + d)).0 t in let q = (eq_iff _ (49 + e)).0 u in omega arith))
 
   pub solved_iff : ((h d : ℕ) → h < 27 → d < 9 → 1 ≤ times g h d) ↔ Legal g g
   solved_iff = (

@@ -61,7 +61,11 @@ module _ (g : List ℕ) (c : ℕ) (h : c < 81) where
   below_same d e m n =
       in_order_same (Below e) (Below d) (below g c e) (below g c d) (below_in_order e) (below_in_order d)
       (λ b. (
-        (λ w. elim (dec_lt (byte b c) (49 + d)) [ yes l ↦ (w.0, l) | no u ↦ absurd (let k : byte b c ≡ 49 + (byte b c - 49) = omega arith in n b (byte b c - 49) w.0 (omega arith) (omega (arith, w.1)) k) ]),
+        (λ w. elim (dec_lt (byte b c) (49 + d)) [
+          | yes l ↦ (w.0, l)
+          | no u ↦ absurd
+              (let k : byte b c ≡ 49 + (byte b c - 49) = omega arith in n b (byte b c - 49) w.0 (omega arith) (omega (arith, w.1)) k)
+        ]),
         λ w. (w.0, omega (arith, w.1)),
       ))
 
@@ -144,7 +148,8 @@ module _ (g : List ℕ) (long : length g ≡ 81) (full : ClosedBefore g 81) wher
   itself b l = ext_get_or 0 b g (l.long ∙ sym long) (λ k u. l.keeps k (omega (arith, l.long)) (full k (omega (arith, l.long))))
 
   pub solved_one : Legal g g → completions g ≡ g ∷ []
-  solved_one l = in_order_same (Legal g) (Legal g) (completions g) (g ∷ []) (completions_in_order g) (in_order_one (Legal g) g l itself) (λ b. ((λ m. m), λ m. m))
+  solved_one l =
+      in_order_same (Legal g) (Legal g) (completions g) (g ∷ []) (completions_in_order g) (in_order_one (Legal g) g l itself) (λ b. ((λ m. m), λ m. m))
 
   pub unsolved_none : (Legal g g → ⊥) → completions g ≡ []
   unsolved_none n =

@@ -65,7 +65,8 @@ pub record Node (g : List ℕ) (c : ℕ) : Type 0 where
 
 -- what is found is followed by the completions of a grid, which are those of another
 pub adds_same : (f f' : Found) (g g' : List ℕ) → ((b : List ℕ) → Legal g b ↔ Legal g' b) → Adds f f' (completions g') → Adds f f' (completions g)
-adds_same f f' g g' i a = subst (Adds f f') (sym (in_order_same (Legal g) (Legal g') (completions g) (completions g') (completions_in_order g) (completions_in_order g') i)) a
+adds_same f f' g g' i a =
+    subst (Adds f f') (sym (in_order_same (Legal g) (Legal g') (completions g) (completions g') (completions_in_order g) (completions_in_order g') i)) a
 
 -- what is known of a grid is known of one with more digits
 pub bounds_more : (only : Option (List ℕ)) (words g g' : List ℕ) → ((b : List ℕ) → Legal g' b → Legal g b) → Bounds only words g → Bounds only words g'
@@ -129,7 +130,8 @@ module _ (g : List ℕ) (c : ℕ) (n : Node g c) where
       λ l. ((branch_iff b).0 l).0,
     )
 
-    module _ (only : Option (List ℕ)) (words : List ℕ) (known : Bounds only words g) (words' : List ℕ) (entered : Bool) (enters : Enters words words' d (c / 27) (c % 27) entered) where
+    module _ (only : Option (List ℕ)) (words : List ℕ) (known : Bounds only words g) (words' : List ℕ) (entered : Bool)
+        (enters : Enters words words' d (c / 27) (c % 27) entered) where
       -- what is known of a branch that is entered
       pub branch_bounds : Bounds only words' branch
       branch_bounds = record {

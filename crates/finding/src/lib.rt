@@ -40,7 +40,7 @@ impl Found {
     }
 
     // One more, which comes after those before.
-    #[tactic(auto, using(crate::proofs::Finding::nothing_first, crate::proofs::Finding::one_one, crate::proofs::Finding::several_first), unfolding(crate::specs::Search::found_of))]
+    #[tactic(auto, using(crate::proofs::Finding::one_first, crate::proofs::Finding::one_second, crate::proofs::Finding::several_first))]
     fn add(&mut self, grid: &[u8; 81])
         ensures { Adds self.old self.new (grid.now ∷ []) }
     {
@@ -68,6 +68,7 @@ struct Search {
 }
 
 impl Search {
+    ghost use Rattle.std.specs.Prelude.{true, IsOk, OnOk};
     ghost use Rattle.finding.specs.Search.{Adds, Bounds, ClosedBefore, MayHave, Fills};
 
     // The digits that a completion may have in a cell, a bit for each.
@@ -102,19 +103,21 @@ impl Search {
         None
     }
 
-    // All completions of a grid, after those that are found before: each digit of the first open cell is tried, until two are found.
-    fn explore(&mut self, grid: &[u8; 81], boards: &Boards, from: usize)
+    // All completions of a grid, after those that are found before: each digit of the first open cell is tried, until two are found. It is an error to
+    // enter too many branches that are not tested.
+    fn explore(&mut self, grid: &[u8; 81], boards: &Boards, from: usize) -> Result<(), Stop>
         requires bounds { Bounds self.old.only boards.now.words grid.now }
         requires closed { (from ≤ 81) × ClosedBefore grid.now from }
-        ensures found { Adds self.old.found self.new.found (completions grid.now) }
-        ensures kept { self.new.only ≡ self.old.only }
+        ensures found { OnOk result (Adds self.old.found self.new.found (completions grid.now)) }
+        ensures kept { (self.new.only ≡ self.old.only) × (self.new.test.tested ≡ self.old.test.tested) }
+        ensures ok { self.old.test.tested ≡ true → IsOk result }
     {
         let mut filled = *grid;
         let Some(Open { cell, digits }) = self.fill(&mut filled, boards, from) else {
             if is_solved(&filled) {
                 self.found.add(&filled);
             }
-            return;
+            return Ok(());
         };
         let mut digit = next_digit(digits, 0);
         while digit < 9 {
@@ -126,14 +129,15 @@ impl Search {
                 band: cell / 27,
                 cell: (cell % 27) as u32,
             };
-            if self.test.enters(&mut next, place) {
-                self.explore(&branch, &next, cell + 1);
+            if self.test.enters(&mut next, place)? {
+                self.explore(&branch, &next, cell + 1)?;
                 if self.found.is_several() {
-                    return;
+                    return Ok(());
                 }
             }
             digit = next_digit(digits, digit + 1);
         }
+        Ok(())
     }
 }
 
@@ -155,6 +159,10 @@ pub fn find(grid: &[u8; 81]) -> Found
         only,
         test: BranchTest::new(count),
     };
-    search.explore(grid, &boards, 0);
+    if search.explore(grid, &boards, 0).is_err() {
+        search.found = Found::Nothing;
+        search.test.tested = true;
+        let _ = search.explore(grid, &boards, 0);
+    }
     search.found
 }

@@ -34,7 +34,8 @@ module _ (g words : List ℕ) (c : ℕ) (long : length words ≡ 36) (below : c 
       go : Dec (4 * d + j ≡ k) → Has g d j i
       go (no n) = w d j i few band cell (subst (λ x. On x i) (get_or-set_other words k (4 * d + j) _ 0 n) y)
       go (yes e) =
-          let z = subst (λ x. On x i) (get_or-set_same words k _ 0 (omega arith)) (subst (λ m. On (get_or (set words k (bit_or (get_or words k 0) bit)) m 0) i) e y) in
+          let z =
+          subst (λ x. On x i) (get_or-set_same words k _ 0 (omega arith)) (subst (λ m. On (get_or (set words k (bit_or (get_or words k 0) bit)) m 0) i) e y) in
           ⊎_elim
           (λ old. w d j i few band cell (subst (λ m. On (get_or words m 0) i) (sym e) old))
           (λ one.

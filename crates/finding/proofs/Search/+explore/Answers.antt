@@ -10,7 +10,7 @@ use Rattle.finding.specs.declared.Open.{Open}
 use Rattle.finding.specs.declared.Found.{Found}
 use Rattle.finding.proofs.Branches.{below, solved_one, unsolved_none}
 use Rattle.finding.proofs.Exploring.{Node, adds_same, bounds_more, first, next, all_tried, two_found, fewer_open, closed_branch, branch_bounds, passed, tried}
-use Rattle.finding.proofs.Search.+explore.Goals.{then-enters+else-is_several, else-enters}
+use Rattle.finding.proofs.Search.+explore.Goals.{then-branch+in_ok-explore+else-is_several, else-branch}
 use Rattle.finding.proofs.Search.+explore.Goals as goal
 
 node : {old new : List ℕ} {x : Open} → Fills old new (Some x) → length new ≡ 81 → Node new x.cell
@@ -37,7 +37,7 @@ loop-digit-init t c =
     let n = node f c.fill.array_long in
     let r = c.next_digit-digit.ensures in
     let x = c.in-Some.field-0 in
-    (r.high, refl, first c.fill.new.grid x.cell n c.args.self.now.found x.digits c.next_digit-digit.result f.first.3 r)
+    (r.high, refl, refl, first c.fill.new.grid x.cell n c.args.self.now.found x.digits c.next_digit-digit.result f.first.3 r)
 
 pub explore-requires : goal.explore-requires
 explore-requires t c =
@@ -49,7 +49,8 @@ explore-requires t c =
     let few = c.loop-digit-test.true in
     let only = c.args.self.now.only in
     let known = bounds_more only c.args.boards.now.words c.args.grid.now g (λ b. (f.legal b).1) c.requires.bounds in
-    let branch = branch_bounds g x.cell n d few only c.args.boards.now.words known c.enters.new.boards.words c.enters.result c.enters.ensures in (
+    let branch =
+    branch_bounds g x.cell n d few only c.args.boards.now.words known c.enters.new.boards.words c.in_ok-enters.field-0 c.in_ok-enters.ensures.entered in (
       omega (arith, c.decreases, f.fewer, fewer_open g x.cell n d few),
       (
         subst (λ o. Bounds o c.enters.new.boards.words (set g x.cell (49 + d))) (sym c.loop-digit.invariant.1) branch,
@@ -67,7 +68,7 @@ returns-then-is_several-clause-found t c =
     let d = c.loop-digit.digit in
     let old = c.args.self.now.found in
     let new = c.explore.new.self.found in
-    let more = tried g x.cell n d c.loop-digit-test.true old c.loop-digit.self.found new c.loop-digit.invariant.2 c.explore.ensures.found in
+    let more = tried g x.cell n d c.loop-digit-test.true old c.loop-digit.self.found new c.loop-digit.invariant.3 c.in_ok-explore.ensures.found in
     adds_same old new c.args.grid.now g f.legal (two_found g x.cell n old new (d + 1) c.is_several.result c.is_several.ensures c.if-is_several.true more)
 
 pub loop-digit-preserved : goal.loop-digit-preserved
@@ -83,19 +84,22 @@ loop-digit-preserved t c =
     let r = c.next_digit-digit-in-loop-digit in
     let then_next : (new : Found) → Adds old new (below g x.cell (d + 1)) → Adds old new (below g x.cell r.result) = λ new a.
     next g x.cell n old new x.digits (d + 1) r.result f.first.3 r.ensures a in
-    elim c.if-enters.branch [
-      | then-enters+else-is_several w ↦ rw w.self-is (
+    elim c.if-branch.branch [
+      | then-branch+in_ok-explore+else-is_several w ↦ rw w.self-is (
         r.ensures.high,
-        w.explore.ensures.kept ∙ i.1,
-        then_next w.explore.new.self.found (tried g x.cell n d few old c.loop-digit.self.found w.explore.new.self.found i.2 w.explore.ensures.found),
+        w.in_ok-explore.ensures.kept.0 ∙ i.1,
+        w.in_ok-explore.ensures.kept.1 ∙ c.in_ok-enters.ensures.kept ∙ i.2,
+        then_next w.explore.new.self.found (tried g x.cell n d few old c.loop-digit.self.found w.explore.new.self.found i.3 w.in_ok-explore.ensures.found),
       )
-      | else-enters w ↦ (
+      | else-branch w ↦ (
           let only = c.args.self.now.only in
           let known = bounds_more only c.args.boards.now.words c.args.grid.now g (λ b. (f.legal b).1) c.requires.bounds in
           rw w.self-is (
             r.ensures.high,
             i.1,
-            then_next c.loop-digit.self.found (passed g x.cell n d few only c.args.boards.now.words known c.enters.new.boards.words c.enters.result c.enters.ensures old c.loop-digit.self.found w.if-enters.false i.2),
+            c.in_ok-enters.ensures.kept ∙ i.2,
+            then_next c.loop-digit.self.found
+                (passed g x.cell n d few only c.args.boards.now.words known c.enters.new.boards.words c.in_ok-enters.field-0 c.in_ok-enters.ensures.entered old c.loop-digit.self.found w.if-branch.false i.3),
           )
           )
     ]
@@ -109,4 +113,4 @@ returns-clause-found t c =
     let i = c.loop-digit.invariant in
     let old = c.args.self.now.found in
     let new = c.loop-digit.self.found in
-    adds_same old new c.args.grid.now g f.legal (all_tried g x.cell n old new c.loop-digit.digit (omega (arith, c.loop-digit-test.false)) i.0 i.2)
+    adds_same old new c.args.grid.now g f.legal (all_tried g x.cell n old new c.loop-digit.digit (omega (arith, c.loop-digit-test.false)) i.0 i.3)

@@ -10,7 +10,9 @@ abbrev pub decreases-explore : goal.decreases-explore
 decreases-explore l = open_cells l.grid.now
 
 abbrev pub invariant-loop-digit : goal.invariant-loop-digit
-invariant-loop-digit l = (l.digit ≤ 9) × (l.self.only ≡ l.fn.self.only) × Adds l.fn.self.found l.self.found (below l.filled l.cell l.digit)
+invariant-loop-digit l =
+    (l.digit ≤ 9) × (l.self.only ≡ l.fn.self.only) × (l.self.test.tested ≡ l.fn.self.test.tested) × Adds l.fn.self.found l.self.found
+    (below l.filled l.cell l.digit)
 
 abbrev pub decreases-loop-digit : goal.decreases-loop-digit
 decreases-loop-digit l = 9 - l.digit

@@ -27,7 +27,8 @@ record Filling (old new : List ℕ) (c : ℕ) : Type 0 where
   closed : ClosedBefore new c
 
 -- nor is it where the only digit that is left is given to the cell
-one_more : (old new : List ℕ) (c d digits : ℕ) → c < 81 → d < 9 → T (is_open new c) → digits ≡ 1 * 2 ^ d % 4294967296 → MayHave new c digits → Filling old new c → Filling old (set new c (49 + d)) (c + 1)
+one_more : (old new : List ℕ) (c d digits : ℕ) → c < 81 → d < 9 → T (is_open new c) → digits ≡ 1 * 2 ^ d % 4294967296 → MayHave new c digits
+    → Filling old new c → Filling old (set new c (49 + d)) (c + 1)
 one_more old new c d digits cell few no_digit one may f =
     let n : Node new c = record { long = f.long; cell = cell; no_digit = no_digit; before = f.closed } in
     record {
@@ -55,7 +56,8 @@ loop-cell-preserved c =
       | then-not-is_digit+else-digit-ge9+else-digits-digit w ↦ (
           let known = bounds_more c.args.self.now.only c.args.boards.now.words c.args.grid.now c.loop-cell.grid (λ b. (i.2 b).1) c.requires.bounds in
           let f =
-          one_more c.args.grid.now c.loop-cell.grid cell _ w.digits_at-digits.result c.loop-cell-test.true (omega (arith, w.if-digit-ge9.false)) (opened _ (sym c.is_digit.ensures ∙ w.if-not-is_digit.true)) w.if-digits-digit.false
+          one_more c.args.grid.now c.loop-cell.grid cell _ w.digits_at-digits.result c.loop-cell-test.true (omega (arith, w.if-digit-ge9.false))
+          (opened _ (sym c.is_digit.ensures ∙ w.if-not-is_digit.true)) w.if-digits-digit.false
           (w.digits_at-digits.ensures c.loop-cell.grid known) (record { long = i.1; legal = i.2; fewer = i.3; closed = i.4 }) in
           rw w.grid-is (omega arith, f.long, f.legal, f.fewer, f.closed)
           )

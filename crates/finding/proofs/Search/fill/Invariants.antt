@@ -9,4 +9,6 @@ use Rattle.finding.specs.Search.{ClosedBefore, open_cells}
 use Rattle.finding.proofs.Search.fill.Given as goal
 
 abbrev pub invariant-loop-cell : goal.invariant-loop-cell
-invariant-loop-cell l = (l.cell ≤ 81) × (length l.grid ≡ 81) × ((b : List ℕ) → Legal l.fn.grid b ↔ Legal l.grid b) × (open_cells l.grid ≤ open_cells l.fn.grid) × ClosedBefore l.grid l.cell
+invariant-loop-cell l =
+    (l.cell ≤ 81) × (length l.grid ≡ 81) × ((b : List ℕ) → Legal l.fn.grid b ↔ Legal l.grid b) ×
+    (open_cells l.grid ≤ open_cells l.fn.grid) × ClosedBefore l.grid l.cell

@@ -25,10 +25,12 @@ in_house : (g : List ℕ) (h k cell : ℕ) → ClosedBefore g 81 → h < 27 → 
 in_house g h k cell full u v e = (digit_iff (byte g cell)).0 (full cell (omega (arith, e, cell_below h k u v)))
 
 pub overflow_sub-digits : goal.overflow_sub-digits
-overflow_sub-digits c = (in_house c.args.grid.now c.args.house c.loop-k.k c.house_cell.result c.requires.0 c.requires.1 c.loop-k-test.true c.house_cell.ensures).0
+overflow_sub-digits c =
+    (in_house c.args.grid.now c.args.house c.loop-k.k c.house_cell.result c.requires.0 c.requires.1 c.loop-k-test.true c.house_cell.ensures).0
 
 pub overflow_shl-digits : goal.overflow_shl-digits
-overflow_shl-digits c = omega (arith, in_house c.args.grid.now c.args.house c.loop-k.k c.house_cell.result c.requires.0 c.requires.1 c.loop-k-test.true c.house_cell.ensures)
+overflow_shl-digits c =
+    omega (arith, in_house c.args.grid.now c.args.house c.loop-k.k c.house_cell.result c.requires.0 c.requires.1 c.loop-k-test.true c.house_cell.ensures)
 
 pub loop-k-preserved : goal.loop-k-preserved
 loop-k-preserved c =

@@ -12,7 +12,8 @@ loop-e-preserved c b f all =
     let e = c.loop-e.e in
     let g = c.loop-e.invariant b f all in
     write_other c.loop-e.self.words b e j _ (omega arith) (omega arith) c.requires.1 d j g
-    (λ n i h y. on_without _ c.args.cells i (omega (arith, c.ranges.cells)) (omega arith) (g.covered e j (omega arith) c.requires.1 n i h y) (λ o. n (one_digit b f.legal e d j i y (all i h o)) (omega arith)))
+    (λ n i h y. on_without _ c.args.cells i (omega (arith, c.ranges.cells)) (omega arith) (g.covered e j (omega arith) c.requires.1 n i h y)
+    (λ o. n (one_digit b f.legal e d j i y (all i h o)) (omega arith)))
 
 pub returns : goal.returns
 returns c b f all =

@@ -28,7 +28,8 @@ returns-then-left-eq0 c b f =
     let d = c.args.d in
     let j = c.args.j in
     let w = in_row b f.legal d c.requires.0 j 0 c.requires.1 (omega arith) in
-    let covers = left_covers c.args.self.now.words b d j c.thirds_of-thirds.result c.some_way.result c.requires.0 c.requires.1 f c.thirds_of-thirds.ensures c.some_way.ensures in
+    let covers =
+    left_covers c.args.self.now.words b d j c.thirds_of-thirds.result c.some_way.result c.requires.0 c.requires.1 f c.thirds_of-thirds.ensures c.some_way.ensures in
     none_on (9 * 0 + w.0) (subst (λ x. On x (9 * 0 + w.0)) c.if-left-eq0.true (covers (9 * 0 + w.0) (omega (arith, w.1)) w.2))
 
 pub returns : goal.returns
@@ -41,14 +42,17 @@ returns c b f =
     let left = bit_and word c.some_way.result in
     let s = c.thirds_of-thirds.result in
     let covers : Covers b d j left = left_covers c.args.self.now.words b d j s c.some_way.result few band f c.thirds_of-thirds.ensures c.some_way.ensures in
-    let g = c.point.ensures b f covers (pointed b f.legal d j few band left c.columns_of.result c.singles-single.result covers c.columns_of.ensures (holds c.singles-single.ensures)) in
+    let g =
+    c.point.ensures b f covers
+    (pointed b f.legal d j few band left c.columns_of.result c.singles-single.result covers c.columns_of.ensures (holds c.singles-single.ensures)) in
     elim c.if-alone-ne0.branch [
       | then-alone-ne0 w ↦ (
           let there : HasAll b d j _ = λ i h y.
           let u = of_both (bit_and (bit_and left c.every_way.result) c.singles-single.result) _ i y in
           let v = of_both (bit_and left c.every_way.result) c.singles-single.result i u.0 in
           alone b f.legal d j few band left c.columns_of.result c.singles-single.result covers c.columns_of.ensures (holds c.singles-single.ensures) i h v.1
-          (every_way_takes b f.legal d j few band word s (f.covered d j few band) c.thirds_of-thirds.ensures c.every_way.result (holds c.every_way.ensures) i h (of_both left c.every_way.result i v.0).1) in
+          (every_way_takes b f.legal d j few band word s (f.covered d j few band) c.thirds_of-thirds.ensures c.every_way.result
+          (holds c.every_way.ensures) i h (of_both left c.every_way.result i v.0).1) in
           subst (λ x. Fits x.words b) (sym w.self-is) (w.fix.ensures b g there)
           )
       | else-alone-ne0 w ↦ subst (λ x. Fits x.words b) (sym w.self-is) g

@@ -19,5 +19,6 @@ returns-then-eq c b f =
     let w = some_digit b f.legal (k / 27) (k % 27) (omega arith) (omega arith) in
     let there = f.covered w.0 (k / 27) w.1 (omega arith) (k % 27) (omega arith) w.2 in
     let e : 27 * (k / 27) + k % 27 ≡ k = omega arith in
-    let here : Has grid w.0 (k / 27) (k % 27) = c.words_of.ensures w.0 (k / 27) (k % 27) w.1 (omega arith) (omega arith) (subst (λ ws. On (get_or ws (4 * w.0 + k / 27) 0) (k % 27)) (sym same) there) in
+    let here : Has grid w.0 (k / 27) (k % 27) =
+    c.words_of.ensures w.0 (k / 27) (k % 27) w.1 (omega arith) (omega arith) (subst (λ ws. On (get_or ws (4 * w.0 + k / 27) 0) (k % 27)) (sym same) there) in
     sym (ap (byte grid) e) ∙ here ∙ sym w.2 ∙ ap (byte b) e))

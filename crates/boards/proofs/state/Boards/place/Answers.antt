@@ -33,4 +33,6 @@ pub returns : goal.returns
 returns c b f h =
     let p = c.args.p in
     write c.args.self.now.words b p.digit p.band _ (omega arith) p.digit_below p.band_below f
-    (λ i k y. on_both _ _ i (f.covered p.digit p.band p.digit_below p.band_below i k y) (stays b p.digit p.band p.cell c.placed.result p.digit_below p.band_below p.cell_below (subst (λ x. T x) (sym c.placed.ensures) tt) c.args.self.now.words f h i k y))
+    (λ i k y. on_both _ _ i (f.covered p.digit p.band p.digit_below p.band_below i k y)
+    (stays b p.digit p.band p.cell c.placed.result p.digit_below p.band_below p.cell_below
+    (subst (λ x. T x) (sym c.placed.ensures) tt) c.args.self.now.words f h i k y))

@@ -12,7 +12,8 @@ loop-k-preserved c b f away =
     let k = c.loop-k.k in
     let g = c.loop-k.invariant b f away in
     write_other c.loop-k.self.words b d k _ (omega arith) c.requires.0 (omega arith) d j g
-    (λ n i h y. on_without _ c.args.columns i (omega (arith, c.ranges.columns)) (omega arith) (g.covered d k c.requires.0 (omega arith) n i h y) (away k i (omega arith) h (n refl) y))
+    (λ n i h y. on_without _ c.args.columns i (omega (arith, c.ranges.columns)) (omega arith) (g.covered d k c.requires.0 (omega arith) n i h y)
+    (away k i (omega arith) h (n refl) y))
 
 pub returns : goal.returns
 returns c b f covers away =
