@@ -142,12 +142,15 @@ pub order_accepted : (o : List ℤ) → EachOnce o → order_check o ≡ Ok tt
 unfolding first_no_literal first_repeat
 order_accepted o h = (accepted_iff o).1 (
   h.long,
-  omega (arith, h.long, position_or_len_is no_literal o (length o) (pos 0) (omega arith) (λ k b. fails_not (is_literal (entry o k)) ((literal_iff (entry o k)).1 (entry_literal k b))) (λ b. absurd (omega arith))),
+  omega (arith, h.long, position_or_len_is no_literal o (length o) (pos 0) (omega arith) passes (λ b. absurd (omega arith))),
   omega (arith, h.long, least_is (repeats o) (length o) (length o) no_repeat),
 )
   where
     entry_literal : Literals o
     entry_literal k b = (h.literals (entry o k)).1 ((contains_iff o (entry o k)).0 (member_at (pos 0) o k b))
+
+    passes : (k : ℕ) → k < length o → no_literal (entry o k) ≡ false
+    passes k b = fails_not (is_literal (entry o k)) ((literal_iff (entry o k)).1 (entry_literal k b))
 
     no_repeat : Least (repeats o) (length o) (length o)
     no_repeat = record {
