@@ -1,24 +1,22 @@
--- The clause call by its checks: it is refused by the first broken rule, then leaves what was lent; else it gives the clause, whose shape tells its length.
+-- The clause call by its checks: it is refused by the first broken rule and then leaves what was lent, and else gives the clause, whose shape tells its length.
 -- Assumes nothing.
-use mathlib.Core.Path.{◌≡◌, refl, ap, sym, ◌∙◌}
+use mathlib.Core.Path.{◌≡◌, refl, ap, sym, subst, ◌∙◌}
 use mathlib.Core.Logic.{◌⊎◌, inl, inr}
-use mathlib.Core.Bool.{Bool, true, false, cond}
 use mathlib.Core.List.{List, [], ◌∷◌}
 use Prim.Native.Nat.{ℕ, zero, suc, ◌<◌}
-use native.Mathlib.Decide.{dec_lt}
 use native.Mathlib.Omega.{arith}
-use lib.Dec.{eqb, leb, ltb}
+use lib.Dec.{eqb, ltb}
 use lib.IntN.{ℤ}
 use lib.ListN.{length, get_or}
 use lib.Seq.{take-append_seam, drop-append_seam}
-use borrow.Author.Tests.{ne_eqb, le-leb, lt-leb, lt-ltb, le-ltb}
-use Rattle.std.specs.Prelude.{Ok, Err, OnErr, IfOk}
+use borrow.Author.Tests.{ne_eqb, ltb-true}
+use Rattle.std.specs.Prelude.{Option, Result, Ok, Err, OnErr, IfOk}
 use Rattle.std.specs.Result.{result_err}
-use Rattle.grid.specs.Refusals.{rule, first_broken}
+use Rattle.grid.specs.Refusals.{first_broken}
 use Rattle.grid.specs.declared.Refusal.{Refusal}
 use Rattle.grid.specs.declared.Refusal.TheVariants as refusal
-use Rattle.grid.proofs.Checks.{checked, checked_first}
-use Rattle.clauses.specs.Clauses.{Clause, clauses_of}
+use Rattle.grid.proofs.Checks.{tested, checked, tested_first, checked_first}
+use Rattle.clauses.specs.Clauses.{clauses_of}
 use Rattle.clauses.specs.Shape.{clause_of, shape_of}
 use Rattle.clauses.specs.Call.{padded, numbered_set, set_rule, clause_rules, GivesClause, Given, refused, clause_given, set_of, clause_call}
 use Rattle.clauses.specs.declared.ClauseSet.{ClauseSet}
@@ -45,42 +43,8 @@ set_clauses (suc zero) s e = ap clauses_of (let q : s ≡ Minimal = cc in q)
 set_clauses (suc (suc zero)) s e = ap clauses_of (let q : s ≡ Extended = cc in q)
 set_clauses (suc (suc (suc n))) s e = absurd (not_accepted s (sym e))
 
-module _ (cs : List Clause) (n : ℕ) (out : List ℤ) where
-  given_broken : result_err (clause_given cs n out).0 ≡ first_broken (rule (ltb n (length cs)) refusal.ClauseNumber ∷ rule (eqb (length out) 9) refusal.LiteralsLength ∷ [])
-  unfolding clause_given
-  given_broken = elim (dec_lt n (length cs)) [
-    | yes h ↦ rw (lt-leb (length cs) n h, lt-ltb n (length cs) h) (go (eqb (length out) 9))
-    | no h ↦ rw (le-leb (length cs) n (omega arith), le-ltb n (length cs) (omega arith)) refl
-  ]
-    where
-      go : (b : Bool) → result_err (cond {A = Given} b (Ok (length (get_or cs n [])), padded (get_or cs n [])) (refused out refusal.LiteralsLength)).0 ≡ first_broken (rule b refusal.LiteralsLength ∷ [])
-      go true = refl
-      go false = refl
-
-  -- a refusal leaves what was lent
-  given_kept : OnErr (clause_given cs n out).0 ((clause_given cs n out).1 ≡ out)
-  unfolding clause_given
-  given_kept = go (leb (length cs) n) (eqb (length out) 9)
-    where
-      go : (x y : Bool) → (λ (r : Given). OnErr r.0 (r.1 ≡ out)) (cond x (refused out refusal.ClauseNumber) (cond y (Ok (length (get_or cs n [])), padded (get_or cs n [])) (refused out refusal.LiteralsLength)))
-      go true y = refl
-      go false true = tt
-      go false false = refl
-
-  given_what : (P : ℕ → List ℤ → Type 0) → (n < length cs → P (length (get_or cs n [])) (padded (get_or cs n []))) → IfOk (clause_given cs n out).0 (λ count. P count (clause_given cs n out).1)
-  unfolding clause_given
-  given_what P h = elim (dec_lt n (length cs)) [
-    | yes w ↦ rw (lt-leb (length cs) n w) (go (eqb (length out) 9) (h w))
-    | no w ↦ rw (le-leb (length cs) n (omega arith)) tt
-  ]
-    where
-      go : (y : Bool) → P (length (get_or cs n [])) (padded (get_or cs n []))
-          → (λ (r : Given). IfOk r.0 (λ count. P count r.1)) (cond y (Ok (length (get_or cs n [])), padded (get_or cs n [])) (refused out refusal.LiteralsLength))
-      go true p = p
-      go false p = tt
-
 -- a clause of a set has nine literals or two
-two_or_nine : (s : ClauseSet) (n : ℕ) → n < length (clauses_of s) → (length (get_or (clauses_of s) n []) ≡ 2) ⊎ (length (get_or (clauses_of s) n []) ≡ 9)
+two_or_nine : (s : ClauseSet) (n : ℕ) → n < length (clauses_of s) → let c = get_or (clauses_of s) n [] in (length c ≡ 2) ⊎ (length c ≡ 9)
 unfolding clause_of
 two_or_nine s n h = rw ((shape_numbers s).clause n h) (go (shape_of n))
   where
@@ -89,21 +53,51 @@ two_or_nine s n h = rw ((shape_numbers s).clause n h) (go (shape_of n))
     go (NotBoth g i j) = inl refl
 
 module _ (set number : ℕ) (out : List ℤ) where
-  pub clause_broken : result_err (clause_call set number out).0 ≡ first_broken (clause_rules set number out)
-  unfolding clause_call clause_rules
-  clause_broken = checked_first (refused out) (λ r. result_err r.0) (λ f. refl) (set_of set) (λ s. clause_given (clauses_of s) number out) (set_rule set ∷ []) _
-      (set_broken set) (λ s e. rw (← set_clauses set s e) (given_broken (clauses_of s) number out))
+  abbrev told : Given → Option Refusal
+  told y = result_err y.0
 
-  pub clause_kept : OnErr (clause_call set number out).0 ((clause_call set number out).1 ≡ out)
-  unfolding clause_call
-  clause_kept = checked (refused out) (λ r. OnErr r.0 (r.1 ≡ out)) (λ f. refl) (set_of set) (λ s. clause_given (clauses_of s) number out) (λ s e. given_kept (clauses_of s) number out)
+  clause_broken : told (clause_call set number out) ≡ first_broken (clause_rules set number out)
+  unfolding clause_call clause_rules clause_given
+  clause_broken =
+      checked_first (refused out) told (λ f. refl) (set_of set) _ (set_rule set ∷ []) _ (set_broken set) λ s known.
+      rw (← set_clauses set s known)
+      (tested_first (refused out) told (λ f. refl) (ltb number (length (clauses_of s))) refusal.ClauseNumber _ _ λ has.
+      tested_first (refused out) told (λ f. refl) (eqb (length out) 9) refusal.LiteralsLength _ _ λ nine. refl)
 
-  pub clause_gives : IfOk (clause_call set number out).0 (GivesClause set number (clause_call set number out).1)
-  unfolding clause_call
-  clause_gives = checked (refused out) (λ r. IfOk r.0 (GivesClause set number r.1)) (λ f. tt) (set_of set) (λ s. clause_given (clauses_of s) number out) (λ s e.
-      given_what (clauses_of s) number out (λ count l. GivesClause set number l count) (λ h.
+  -- what holds of a refusal and of a clause of the set holds of the call
+  by_checks : (P : Given → Type 0) → ((f : Refusal) → P (refused out f))
+      → ((s : ClauseSet) → set_of set ≡ Ok s → number < length (clauses_of s) → let c = get_or (clauses_of s) number [] in P (Ok (length c), padded c))
+      → P (clause_call set number out)
+  unfolding clause_call clause_given
+  by_checks P refuses gives =
+      checked (refused out) P refuses (set_of set) _ λ s known.
+      tested (refused out) P refuses (ltb number (length (clauses_of s))) refusal.ClauseNumber _ λ has.
+      tested (refused out) P refuses (eqb (length out) 9) refusal.LiteralsLength _ λ nine. gives s known (ltb-true number (length (clauses_of s)) has)
+
+  -- the lent literals stay
+  abbrev Stays : Given → Type 0
+  Stays y = OnErr y.0 (y.1 ≡ out)
+
+  -- they are the clause's
+  abbrev Answers : Given → Type 0
+  Answers y = IfOk y.0 (GivesClause set number y.1)
+
+  clause_answers : Answers (clause_call set number out)
+  clause_answers = by_checks Answers (λ f. tt) λ s known has.
+      let c = get_or (clauses_of s) number [] in
       record {
-        two_or_nine = two_or_nine s number h;
-        literals = take-append_seam (get_or (clauses_of s) number []) _ ∙ ap (λ cs. get_or cs number []) (set_clauses set s e);
-        zeros = drop-append_seam (get_or (clauses_of s) number []) _;
-      }))
+        two_or_nine = two_or_nine s number has;
+        literals = take-append_seam c _ ∙ ap (λ cs. get_or cs number []) (set_clauses set s known);
+        zeros = drop-append_seam c _;
+      }
+
+  -- so of what gives back what the call does
+  module _ (r : Result ℕ Refusal) (out' : List ℤ) (e : (r, out') ≡ clause_call set number out) where
+    pub refused_so : result_err r ≡ first_broken (clause_rules set number out)
+    refused_so = ap told e ∙ clause_broken
+
+    pub stays_so : Stays (r, out')
+    stays_so = subst Stays (sym e) (by_checks Stays (λ f. refl) (λ s known has. tt))
+
+    pub answers_so : Answers (r, out')
+    answers_so = subst Answers (sym e) clause_answers

@@ -1,5 +1,6 @@
 -- The clause call: its answer, and what it leaves in the lent literals.
-use Rattle.std.specs.Prelude.{◌≡◌, ◌⊎◌, cond, if◌then◌else◌, ◌||◌, List, [], ◌∷◌, ◌++◌, ℕ, zero, suc, ◌-◌, eqb, leb, ◌==◌, nat_lt, ℤ, pos, length, get_or, take, drop, replicate, Option, Result, Ok, Err}
+use Rattle.std.specs.Prelude.{◌≡◌, ◌⊎◌, cond, if◌then◌else◌, ◌||◌, ℕ, zero, suc, ◌-◌, eqb, ltb, ◌==◌, nat_lt, ℤ, pos, Option, Result, Ok, Err}
+use Rattle.std.specs.Prelude.{List, [], ◌∷◌, ◌++◌, length, get_or, take, drop, replicate}
 use Rattle.grid.specs.Refusals.{rule, on_accepted}
 use Rattle.grid.specs.declared.Refusal.{Refusal}
 use Rattle.grid.specs.declared.Refusal.TheVariants as refusal
@@ -43,8 +44,9 @@ refused out r = (Err r, out)
 -- the clause of that number, where the set has it and nine literals are lent
 unfoldable pub clause_given : List Clause → ℕ → List ℤ → Given
 clause_given cs n out =
-    cond (leb (length cs) n) (refused out refusal.ClauseNumber)
+    cond (ltb n (length cs))
     (cond (eqb (length out) 9) (Ok (length (get_or cs n [])), padded (get_or cs n [])) (refused out refusal.LiteralsLength))
+    (refused out refusal.ClauseNumber)
 
 -- the set of a number, 1 or 2
 abbrev pub set_of : ℕ → Result ClauseSet Refusal

@@ -1,7 +1,7 @@
 // Literals as signed 16-bit numbers: +v and -v, v from 1 to 729. 0 is none. They stay numbers, as hosts lend them in an order: a type would be made of
 // each that is read.
-ghost use Rattle.std.specs.Prelude.{◌≡◌, suc, ◌<◌, pos, negsuc, nat_abs};
-ghost use Rattle.clauses.specs.Literal.{is_literal, negation, mark_index};
+ghost use Rattle.std.specs.Prelude.{◌≡◌, ◌↔◌, IsTrue, suc, ◌<◌, pos, negsuc, nat_abs};
+ghost use Rattle.clauses.specs.Literal.{Literal, is_literal, negation, mark_index};
 
 // The number of the literal's variable.
 pub fn magnitude(l: i16) -> usize
@@ -10,10 +10,11 @@ pub fn magnitude(l: i16) -> usize
     l.unsigned_abs() as usize
 }
 
-// Whether there is such a literal.
+// Whether there is such a literal: from 1 to 729 and from -729 to -1.
 #[tactic(auto, unfolding(crate::specs::Literal::is_literal))]
 pub fn is_literal(l: i16) -> bool
-    ensures { result ≡ is_literal l }
+    ensures exact { result ≡ is_literal l }
+    ensures literal { IsTrue result ↔ Literal l }
 {
     l != 0 && -729 <= l && l <= 729
 }

@@ -37,7 +37,10 @@ begun n d = map (λ b. d ∷ b) (fillings n)
 fillings_iff : (n : ℕ) (b : List ℕ) → Memᴰ b (fillings n) ↔ Digits n b
 unfolding fillings
 fillings_iff zero [] = ((λ m. record { long = refl; digits = λ c h. absurd (omega arith) }), λ i. Memᴰ.head refl)
-fillings_iff zero (x ∷ b) = ((λ m. absurd (let e : ◌≡◌ {A = ℕ} (suc (length b)) 0 = ap length (Memᴰ.eq_of_singleton m) in omega arith)), λ i. absurd (omega (arith, i.long)))
+fillings_iff zero (x ∷ b) = (
+  (λ m. absurd (let e : ◌≡◌ {A = ℕ} (suc (length b)) 0 = ap length (Memᴰ.eq_of_singleton m) in omega arith)),
+  λ i. absurd (omega (arith, i.long)),
+)
 fillings_iff (suc n) [] = (
   (λ m. let w = (over_iff 49 9 (begun n) []).0 m in let v = Memᴰ.of_map (λ b. w.0 ∷ b) (fillings n) w.3 in absurd (omega (arith, ap length v.2))),
   λ i. absurd (omega (arith, i.long)),

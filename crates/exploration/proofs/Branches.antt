@@ -110,7 +110,10 @@ module _ (m : List ℕ) (i : IsMarks m) (c : ℕ) (h : c < 81) where
           (in_order_append (Below d) (Fits (Of t)) (below m c d) (left t) (below_in_order d) (left_in_order t s.state.marks.marks)
           (λ a b v f. let w = back b f in smaller_before a b v.0 w.0 (omega (arith, v.1, w.1))))
           (λ b. (
-            (λ w. elim (dec_lt (byte b c) (49 + d)) [ yes l ↦ inl (w.0, l) | no n ↦ inr ((closed_fits Digit s b).0 ((digit_fits b).1 (w.0, omega (arith, w.1)))) ]),
+            (λ w. elim (dec_lt (byte b c) (49 + d)) [
+              | yes l ↦ inl (w.0, l)
+              | no n ↦ inr ((closed_fits Digit s b).0 ((digit_fits b).1 (w.0, omega (arith, w.1))))
+            ]),
             λ w. ⊎_elim (λ v. (v.0, omega (arith, v.1))) (λ f. let v = back b f in (v.0, omega (arith, v.1))) w,
           ))
         where

@@ -51,8 +51,8 @@ module _ (m : List ℕ) (ok : MarksOk Extended m) (full : (c : ℕ) → c < 81 �
   meets (OneOf (House x d)) h i = absurd i
   meets (NotBoth (Cell c) j k) h i = absurd i
   meets (NotBoth (House x d) j k) h i =
-      (not_both_iff A (House x d) j k).1
-      (pair (NotBoth (House x d) j k) (place_of (House x d) j) (place_of (House x d) k) ((member_iff Extended (clause_of (NotBoth (House x d) j k))).1 (NotBoth (House x d) j k, h, tt, refl)) refl)
+      let pair_there = (member_iff Extended (clause_of (NotBoth (House x d) j k))).1 (NotBoth (House x d) j k, h, tt, refl) in
+      (not_both_iff A (House x d) j k).1 (pair (NotBoth (House x d) j k) (place_of (House x d) j) (place_of (House x d) k) pair_there refl)
 
   proper : Proper A
   proper = satisfying_proper A Minimal (λ c i. let w = (member_iff Minimal c).0 i in subst (Satisfies A) w.3 (meets w.0 w.1 w.2))

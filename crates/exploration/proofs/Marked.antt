@@ -53,7 +53,8 @@ module _ (m t : List ℕ) (more : (c d : ℕ) → T (is_in m c d) → T (is_in t
   unfolding is_open
   open_still c o = (all_iff 9 _).1 (λ d h. not_T (is_in m c d) (λ y. T_not (is_in t c d) ((all_iff 9 _).0 o d h) (more c d y)))
 
-  compared : (tally 81 (is_open t) ≤ tally 81 (is_open m)) × (tally 81 (is_open m) ≤ tally 81 (is_open t) → (c : ℕ) → c < 81 → T (is_open m c) → T (is_open t c))
+  compared : (tally 81 (is_open t) ≤ tally 81 (is_open m))
+      × (tally 81 (is_open m) ≤ tally 81 (is_open t) → (c : ℕ) → c < 81 → T (is_open m c) → T (is_open t c))
   compared = tally_compare 81 (is_open t) (is_open m) (λ c h. open_still c)
 
   pub open_fewer : (c d : ℕ) → c < 81 → d < 9 → T (is_open m c) → T (is_in t c d) → open_cells t < open_cells m

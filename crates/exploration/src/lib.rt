@@ -39,7 +39,8 @@ impl Found {
 // What is found in two lists, one after the other.
 #[tactic(auto, using(crate::proofs::Finding::nothing_first, crate::proofs::Finding::one_nothing, crate::proofs::Finding::one_one, crate::proofs::Finding::one_several, crate::proofs::Finding::several_first))]
 fn followed(found: Found, more: Found) -> Found
-    ensures { (a b : List (List ℕ)) → found ≡ found_of a → more ≡ found_of b → result ≡ found_of (a ++ b) }
+    ensures { (a b : List (List ℕ)) → found ≡ found_of a → more ≡ found_of b
+        → result ≡ found_of (a ++ b) }
 {
     match found {
         Found::Nothing => more,

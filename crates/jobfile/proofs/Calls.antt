@@ -39,7 +39,8 @@ lent_broken : (grid order : ℕ) → result_err (lent_check grid order) ≡ firs
 unfolding lent_check
 lent_broken grid order = go (eqb grid 81) (eqb order 1458)
   where
-    go : (x y : Bool) → result_err {T = Unit {0}} (cond x (cond y (Ok tt) (Err OrderBuffer)) (Err BufferLength)) ≡ first_broken (rule x BufferLength ∷ rule y OrderBuffer ∷ [])
+    go : (x y : Bool) → result_err {T = Unit {0}} (cond x (cond y (Ok tt) (Err OrderBuffer)) (Err BufferLength))
+        ≡ first_broken (rule x BufferLength ∷ rule y OrderBuffer ∷ [])
     go true true = refl
     go true false = refl
     go false y = refl
@@ -66,7 +67,8 @@ module _ (f g : List ℕ) (o : List ℤ) where
     unfolding read_call read_rules read_bodies
     read_broken =
         checked_first (refused g o) (λ r. result_err r.0) (λ f. refl) (lent_check (length g) (length o)) _
-        (rule (eqb (length g) 81) BufferLength ∷ rule (eqb (length o) 1458) OrderBuffer ∷ []) (file_rules (pieces_of f)) (lent_broken (length g) (length o)) λ u lent. go (pieces_of f) refl
+        (rule (eqb (length g) 81) BufferLength ∷ rule (eqb (length o) 1458) OrderBuffer ∷ []) (file_rules (pieces_of f))
+        (lent_broken (length g) (length o)) λ u lent. go (pieces_of f) refl
       where
         go : (x : Result Bodies Refusal) → pieces_of f ≡ x → result_err (on_accepted x (refused g o) (λ b. read_bodies b g o)).0 ≡ first_broken (file_rules x)
         go (Err r) e = refl
@@ -75,12 +77,15 @@ module _ (f g : List ℕ) (o : List ℤ) where
             (contents_broken b.grid b.technique (order_in b.order) (spelled b e).long.grid) λ t contents. refl
 
   -- what is accepted
-  contents : (g : List ℕ) (n : ℕ) (o : List ℤ) (t : Technique) → contents_check g n o ≡ Ok t → (grid_check g ≡ Ok tt) × (technique_of n ≡ Ok t) × (order_check o ≡ Ok tt)
+  contents : (g : List ℕ) (n : ℕ) (o : List ℤ) (t : Technique) → contents_check g n o ≡ Ok t
+      → (grid_check g ≡ Ok tt) × (technique_of n ≡ Ok t) × (order_check o ≡ Ok tt)
   unfolding contents_check
   contents g n o t = go (grid_check g) (technique_of n) (order_check o) refl refl refl
     where
-      go : (x : Result (Unit {0}) Refusal) (y : Result Technique Refusal) (z : Result (Unit {0}) Refusal) → grid_check g ≡ x → technique_of n ≡ y → order_check o ≡ z
-          → on_accepted x Err (λ u. on_accepted y Err λ t. on_accepted z Err λ v. Ok t) ≡ Ok t → (grid_check g ≡ Ok tt) × (technique_of n ≡ Ok t) × (order_check o ≡ Ok tt)
+      go : (x : Result (Unit {0}) Refusal) (y : Result Technique Refusal) (z : Result (Unit {0}) Refusal)
+          → grid_check g ≡ x → technique_of n ≡ y → order_check o ≡ z
+          → on_accepted x Err (λ u. on_accepted y Err λ t. on_accepted z Err λ v. Ok t) ≡ Ok t
+          → (grid_check g ≡ Ok tt) × (technique_of n ≡ Ok t) × (order_check o ≡ Ok tt)
       go (Ok u) (Ok s) (Ok v) a b c e = (a, b ∙ e, c)
       go (Ok u) (Ok s) (Err r) a b c e = absurd (no_answer e)
       go (Ok u) (Err r) z a b c e = absurd (no_answer e)
@@ -88,7 +93,8 @@ module _ (f g : List ℕ) (o : List ℤ) where
 
   -- what holds of a refusal and of what bodies set holds of the call
   by_checks : (P : Given → Type 0) → ((r : Refusal) → P (refused g o r))
-      → ((b : Bodies) (t : Technique) → pieces_of f ≡ Ok b → contents_check b.grid b.technique (order_in b.order) ≡ Ok t → P (Ok (settings_in b t), b.grid, order_in b.order))
+      → ((b : Bodies) (t : Technique) → pieces_of f ≡ Ok b → contents_check b.grid b.technique (order_in b.order) ≡ Ok t
+      → P (Ok (settings_in b t), b.grid, order_in b.order))
       → P (read_call f g o)
   unfolding read_call read_bodies
   by_checks P refuses gives =

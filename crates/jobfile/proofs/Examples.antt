@@ -34,7 +34,8 @@ unfolding piece_at walk_from pieces_of
 within_a_piece = (refl, refl, refl)
 
 -- a kind that repeats, at its piece's place; and an earlier piece's 33 before a later one's 31
-between_pieces : (pieces_of (1 ∷ 0 ∷ 2 ∷ 0 ∷ 1 ∷ 1 ∷ 0 ∷ 2 ∷ 0 ∷ 1 ∷ []) ≡ Err (PieceKind 5)) × (pieces_of (2 ∷ 0 ∷ 2 ∷ 0 ∷ 1 ∷ 1 ∷ 0 ∷ []) ≡ Err (PieceLength 0))
+between_pieces : (pieces_of (1 ∷ 0 ∷ 2 ∷ 0 ∷ 1 ∷ 1 ∷ 0 ∷ 2 ∷ 0 ∷ 1 ∷ []) ≡ Err (PieceKind 5))
+    × (pieces_of (2 ∷ 0 ∷ 2 ∷ 0 ∷ 1 ∷ 1 ∷ 0 ∷ []) ≡ Err (PieceLength 0))
 unfolding piece_at walk_from pieces_of
 between_pieces = (refl, refl)
 

@@ -88,8 +88,8 @@ fn read_file(
     read_bodies(&read_pieces(file)?, grid, order)
 }
 
-/// The reading call, which is lent 81 bytes for the grid and 1,458 literals for the order, and answers technique and ceiling. It refuses with 42 and 46 for what
-/// is lent; 31, 32 and 33 piece by piece and 34 at the end; 12, 21, 23 and 24 for what the file says; tested in this order.
+/// The reading call, which is lent 81 bytes for the grid and 1,458 literals for the order, and answers technique and ceiling. It refuses with 42 and 46
+/// for what is lent; 31, 32 and 33 piece by piece and 34 at the end; 12, 21, 23 and 24 for what the file says; tested in this order.
 #[tactic(auto, unfolding(crate::specs::Call::lent_check, crate::specs::Call::read_call))]
 pub fn read(file: &[u8], grid: &mut [u8], order: &mut [i16]) -> Result<Settings, Refusal>
     ensures exact { (result, grid.new, order.new) ≡ read_call file.now grid.old order.old }

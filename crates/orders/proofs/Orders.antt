@@ -132,7 +132,8 @@ pub accepted_no_other : (o : List ℤ) → order_check o ≡ Ok tt → first_no_
 unfolding first_no_literal
 accepted_no_other o e =
     let t = (accepted_iff o).0 e in
-    position_or_len_is no_literal o (length o) (pos 0) (omega arith) (λ k b. fails_before_first no_literal o k (pos 0) (omega (arith, t.0, t.1))) (λ b. absurd (omega arith))
+    let passes : (k : ℕ) → k < length o → no_literal (entry o k) ≡ false = λ k b. fails_before_first no_literal o k (pos 0) (omega (arith, t.0, t.1)) in
+    position_or_len_is no_literal o (length o) (pos 0) (omega arith) passes (λ b. absurd (omega arith))
 
 pub no_other_literals : (o : List ℤ) → length o ≤ first_no_literal o → Literals o
 unfolding first_no_literal
@@ -142,12 +143,15 @@ pub order_accepted : (o : List ℤ) → EachOnce o → order_check o ≡ Ok tt
 unfolding first_no_literal first_repeat
 order_accepted o h = (accepted_iff o).1 (
   h.long,
-  omega (arith, h.long, position_or_len_is no_literal o (length o) (pos 0) (omega arith) (λ k b. fails_not (is_literal (entry o k)) ((literal_iff (entry o k)).1 (entry_literal k b))) (λ b. absurd (omega arith))),
+  omega (arith, h.long, position_or_len_is no_literal o (length o) (pos 0) (omega arith) passes (λ b. absurd (omega arith))),
   omega (arith, h.long, least_is (repeats o) (length o) (length o) no_repeat),
 )
   where
     entry_literal : Literals o
     entry_literal k b = (h.literals (entry o k)).1 ((contains_iff o (entry o k)).0 (member_at (pos 0) o k b))
+
+    passes : (k : ℕ) → k < length o → no_literal (entry o k) ≡ false
+    passes k b = fails_not (is_literal (entry o k)) ((literal_iff (entry o k)).1 (entry_literal k b))
 
     no_repeat : Least (repeats o) (length o) (length o)
     no_repeat = record {
@@ -198,13 +202,17 @@ abbrev order_place : ℤ → ℕ
 order_place (pos v) = 2 * (v - 1)
 order_place (negsuc k) = 2 * k + 1
 
-default_place : (i : ℕ) → i < 1458 → Literal (entry default_order i) × (order_place (entry default_order i) ≡ i)
+-- a literal stands at place i, its own
+abbrev Placed : ℕ → Type 0
+Placed i = Literal (entry default_order i) × (order_place (entry default_order i) ≡ i)
+
+default_place : (i : ℕ) → i < 1458 → Placed i
 default_place i h =
     let k : i / 2 < 729 = omega arith in
     let r = default_at (i / 2) k in
     elim (ℕ_discrete (i % 2) 0) [
-      | yes e ↦ (let q : 2 * (i / 2) ≡ i = omega arith in subst (λ x. Literal (entry default_order x) × (order_place (entry default_order x) ≡ i)) q (rw r.0 (k, omega arith)))
-      | no d ↦ (let q : 2 * (i / 2) + 1 ≡ i = omega arith in subst (λ x. Literal (entry default_order x) × (order_place (entry default_order x) ≡ i)) q (rw r.1 (k, omega arith)))
+      | yes e ↦ (let q : 2 * (i / 2) ≡ i = omega arith in subst Placed q (rw r.0 (k, omega arith)))
+      | no d ↦ (let q : 2 * (i / 2) + 1 ≡ i = omega arith in subst Placed q (rw r.1 (k, omega arith)))
     ]
 
 default_literal : (l : ℤ) → Memᴰ l default_order → Literal l

@@ -31,24 +31,33 @@ technique_broken (suc (suc (suc zero))) = refl
 technique_broken (suc (suc (suc (suc zero)))) = refl
 technique_broken (suc (suc (suc (suc (suc k))))) =
     let n = suc (suc (suc (suc (suc k)))) in
-    rw (ne_eqb n 1 (omega arith), ne_eqb n 2 (omega arith), ne_eqb n 3 (omega arith), ne_eqb n 4 (omega arith), le-leb 1 n (omega arith), lt-leb n 4 (omega arith)) refl
+    rw (ne_eqb n 1 (omega arith), ne_eqb n 2 (omega arith), ne_eqb n 3 (omega arith), ne_eqb n 4 (omega arith))
+    (rw (le-leb 1 n (omega arith), lt-leb n 4 (omega arith)) refl)
 
-pub order_broken : (o : List ℤ) → result_err (order_check o) ≡ first_broken (order_rules o)
-unfolding order_check order_rules first_no_literal
-order_broken o = tested_first Err (λ r. result_err r) (λ f. refl) (eqb (length o) 1458) OrderLength entries_checked (entries_rules (length o)) (λ t.
-    subst (λ n. result_err entries_checked ≡ first_broken (entries_rules n)) (sym (eqb-true (length o) 1458 t)) (go (ltb (first_no_literal o) 1458) (ltb (first_repeat o) 1458)))
-  where
-    entries_checked : Result (Unit {0}) Refusal
-    entries_checked = cond (ltb (first_no_literal o) 1458) (Err (OrderEntry (first_no_literal o))) (cond (ltb (first_repeat o) 1458) (Err (OrderRepeat (first_repeat o))) (Ok tt))
+-- the entries, of which there are n
+module _ (o : List ℤ) where
+  abbrev entries_check : Result (Unit {0}) Refusal
+  entries_check =
+      cond (ltb (first_no_literal o) 1458) (Err (OrderEntry (first_no_literal o)))
+      (cond (ltb (first_repeat o) 1458) (Err (OrderRepeat (first_repeat o))) (Ok tt))
 
-    entries_rules : ℕ → List (Option Refusal)
-    entries_rules n = option_map OrderEntry (before n (first_no_literal o)) ∷ option_map OrderRepeat (before n (first_repeat o)) ∷ []
+  abbrev entries_rules : ℕ → List (Option Refusal)
+  entries_rules n = option_map OrderEntry (before n (first_no_literal o)) ∷ option_map OrderRepeat (before n (first_repeat o)) ∷ []
 
-    go : (x y : Bool) → result_err {T = Unit {0}} {E = Refusal} (cond x (Err (OrderEntry (first_no_literal o))) (cond y (Err (OrderRepeat (first_repeat o))) (Ok tt)))
-        ≡ first_broken (option_map OrderEntry (cond x (Some (first_no_literal o)) None) ∷ option_map OrderRepeat (cond y (Some (first_repeat o)) None) ∷ [])
-    go true y = refl
-    go false true = refl
-    go false false = refl
+  entries_broken : result_err entries_check ≡ first_broken (entries_rules 1458)
+  entries_broken = go (ltb (first_no_literal o) 1458) (ltb (first_repeat o) 1458) (first_no_literal o) (first_repeat o)
+    where
+      go : (x y : Bool) (i j : ℕ) → result_err {T = Unit {0}} (cond x (Err (OrderEntry i)) (cond y (Err (OrderRepeat j)) (Ok tt)))
+          ≡ first_broken (option_map OrderEntry (cond x (Some i) None) ∷ option_map OrderRepeat (cond y (Some j) None) ∷ [])
+      go true y i j = refl
+      go false true i j = refl
+      go false false i j = refl
+
+  pub order_broken : result_err (order_check o) ≡ first_broken (order_rules o)
+  unfolding order_check order_rules first_no_literal
+  order_broken =
+      tested_first Err (λ r. result_err r) (λ f. refl) (eqb (length o) 1458) OrderLength entries_check (entries_rules (length o)) λ long.
+      subst (λ n. result_err entries_check ≡ first_broken (entries_rules n)) (sym (eqb-true (length o) 1458 long)) entries_broken
 
 -- what the check of an order answers
 pub order_told : (o : List ℤ) (r : Result (Unit {0}) Refusal) → r ≡ order_check o → result_err r ≡ first_broken (order_rules o)

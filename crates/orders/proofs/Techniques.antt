@@ -59,7 +59,8 @@ at_least_table m n t u p q =
   where
     row : (m : ℕ) (t : Technique)
         → AtLeast t unit_minimal ↔ IsTrue (is_same_or_below m 1) → AtLeast t unit_extended ↔ IsTrue (is_same_or_below m 2)
-        → AtLeast t trials_minimal ↔ IsTrue (is_same_or_below m 3) → AtLeast t trials_extended ↔ IsTrue (is_same_or_below m 4) → AtLeast t u ↔ IsTrue (is_same_or_below m n)
+        → AtLeast t trials_minimal ↔ IsTrue (is_same_or_below m 3) → AtLeast t trials_extended ↔ IsTrue (is_same_or_below m 4)
+        → AtLeast t u ↔ IsTrue (is_same_or_below m n)
     row m t a b c d = each_technique (λ n u. AtLeast t u ↔ IsTrue (is_same_or_below m n)) a b c d n u q
 
 -- a shape of a set is one of a set that it is within

@@ -1,5 +1,5 @@
 // The order of trials: a list of 1,458 literals, each once.
-ghost use Rattle.std.specs.Prelude.{◌≡◌, ◌↔◌, Ok, IsOk, length};
+ghost use Rattle.std.specs.Prelude.{◌≡◌, ◌↔◌, Ok, IsOk, IfOk, length};
 ghost use Rattle.std.specs.Result.{result_err};
 ghost use Rattle.grid.specs.Refusals.{first_broken};
 ghost use Rattle.clauses.specs.Literal.{Literal};
@@ -92,7 +92,9 @@ impl<'a> Order<'a> {
     // The entries as an order, where the check accepts them.
     #[tactic(auto, using(crate::proofs::Orders::accepted_no_other))]
     pub fn checked(entries: &'a [i16]) -> Result<Order<'a>, Refusal>
-        ensures { Checks entries.now result }
+        ensures exact { Checks entries.now result }
+        ensures refused { result_err result ≡ first_broken (order_rules entries.now) }
+        ensures ok { IfOk result (λ order. EachOnce order.entries.now) }
     {
         check_order(entries)?;
         Ok(Order { entries })

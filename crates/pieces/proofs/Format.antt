@@ -122,7 +122,8 @@ piece_ok : (long number left at : ℕ) (last : Option Kind) (p : Piece) → piec
 piece_ok long number left at last p = test (leb 4 left && leb (4 + long) left) refl (kind_of number) refl
   where
     found : (kind : Kind) → 4 + long ≤ left → kind_of number ≡ Some kind → (x y : Bool) → rises last kind ≡ x → eqb long (body_length kind) ≡ y
-        → cond x (cond y (Ok (record { kind = kind; next = at + 4 + long })) (Err (PieceLength at))) (Err (PieceKind at)) ≡ Ok p → Accepted long number left at last p
+        → cond x (cond y (Ok (record { kind = kind; next = at + 4 + long })) (Err (PieceLength at))) (Err (PieceKind at)) ≡ Ok p
+        → Accepted long number left at last p
     found kind h k true true r l e =
         let q : ◌≡◌ {A = Piece} (record { kind = kind; next = at + 4 + long }) p = cc in
         rw (← q) (record { whole = h; known = k; rising = r; right = eqb-true long (body_length kind) l; next = refl })
@@ -149,11 +150,13 @@ piece_fits long number left at last kind h k r l =
     rw (le-leb 4 left (omega arith), le-leb (4 + long) left h, k, r, eq-eqb long (body_length kind) l) refl
 
 -- and one that breaks some is refused by the first of them
-rest_broken : (last : Option Kind) (at : ℕ) (rest : List ℕ) → result_err (piece_of (word_at rest 0) (word_at rest 2) (length rest) at last) ≡ first_broken (piece_rules last at rest)
+rest_broken : (last : Option Kind) (at : ℕ) (rest : List ℕ)
+    → result_err (piece_of (word_at rest 0) (word_at rest 2) (length rest) at last) ≡ first_broken (piece_rules last at rest)
 unfolding piece_rules
 rest_broken last at rest = go (leb 4 (length rest) && leb (4 + word_at rest 0) (length rest)) (kind_of (word_at rest 2))
   where
-    found : (x y : Bool) (kind : Kind) → result_err {T = Piece} (cond x (cond y (Ok (record { kind = kind; next = at + 4 + word_at rest 0 })) (Err (PieceLength at))) (Err (PieceKind at)))
+    found : (x y : Bool) (kind : Kind)
+        → result_err {T = Piece} (cond x (cond y (Ok (record { kind = kind; next = at + 4 + word_at rest 0 })) (Err (PieceLength at))) (Err (PieceKind at)))
         ≡ first_broken (rule x (PieceKind at) ∷ rule y (PieceLength at) ∷ [])
     found true true kind = refl
     found true false kind = refl
@@ -235,8 +238,10 @@ module _ (f : List ℕ) where
   unfolding piece_at
   at_rest at last =
       let here : (i : ℕ) → get_or (drop at f) i 0 ≡ get_or f (at + i) 0 = λ i. get_or-drop at f i 0 in
-      let e : word_at (drop at f) 0 ≡ word_at f at = omega (arith, here 0, here 1, ap (λ i. get_or f i 0) (let z : at + 0 ≡ at = omega arith in z)) in
-      let g : word_at (drop at f) 2 ≡ word_at f (at + 2) = omega (arith, here 2, here 3, ap (λ i. get_or f i 0) (let z : at + 3 ≡ at + 2 + 1 = omega arith in z)) in
+      let first : get_or f (at + 0) 0 ≡ get_or f at 0 = ap (λ i. get_or f i 0) (omega arith) in
+      let last_one : get_or f (at + 3) 0 ≡ get_or f (at + 2 + 1) 0 = ap (λ i. get_or f i 0) (omega arith) in
+      let e : word_at (drop at f) 0 ≡ word_at f at = omega (arith, here 0, here 1, first) in
+      let g : word_at (drop at f) 2 ≡ word_at f (at + 2) = omega (arith, here 2, here 3, last_one) in
       rw (e, g, length-drop at f) refl
 
   module _ (bytes : AreBytes f) where
@@ -261,17 +266,19 @@ module _ (f : List ℕ) where
         let later : drop 4 rest ≡ left = drop-drop 4 at f in
         let fits : n ≤ length left = omega (arith, a.whole, a.right, length-drop at f, length-drop (at + 4) f) in
         let more = body_more b p.kind left (bytes_later (at + 4) f bytes) fits (ap (λ l. rises l p.kind) (sym h.last_is) ∙ a.rising) in
+        let kind = kind_known (word_at rest 2) p.kind a.known in
         let s : rest ≡ piece p.kind (take n left) ++ drop n left =
-        subst (λ l. rest ≡ piece p.kind (take n l) ++ drop n l) later (split p.kind rest (bytes_later at f bytes) (omega (arith, a.whole, a.right)) a.right (kind_known (word_at rest 2) p.kind a.known)) in
+        subst (λ l. rest ≡ piece p.kind (take n l) ++ drop n l) later
+        (split p.kind rest (bytes_later at f bytes) (omega (arith, a.whole, a.right)) a.right kind) in
+        let sum : length (pieces_spelled b ++ piece p.kind (take n left)) ≡ length (pieces_spelled b) + (4 + length (take n left)) =
+        omega (arith, length-append (pieces_spelled b) (piece p.kind (take n left)), piece_long p.kind (take n left)) in
         let end : drop n left ≡ drop p.next f = drop-drop n (at + 4) f ∙ ap (λ i. drop i f) (omega (arith, a.next, a.right)) in
         record {
           begins =
               h.begins ∙ ap (λ l. pieces_spelled b ++ l) (s ∙ ap (λ l. piece p.kind (take n left) ++ l) end)
               ∙ sym (append_assoc (pieces_spelled b) (piece p.kind (take n left)) (drop p.next f))
               ∙ ap (λ l. l ++ drop p.next f) (sym more.spelled);
-          place =
-              ap length more.spelled
-              ∙ omega (arith, length-append (pieces_spelled b) (piece p.kind (take n left)), piece_long p.kind (take n left), length-take-le n left fits, h.place, a.next, a.right);
+          place = ap length more.spelled ∙ omega (arith, sum, length-take-le n left fits, h.place, a.next, a.right);
           last_is = sym more.last;
           long = long_more b p.kind left fits h.long;
         }
@@ -310,7 +317,8 @@ module _ (f : List ℕ) where
     ]
       where
         go : ((b : Found) (last : Option Kind) (at : ℕ) → Have b last at → length f ≤ at + n → Means (walk_from n f at last b))
-            → (x : Result Piece Refusal) → piece_at f at last ≡ x → at < length f → Means (on_accepted x Err λ p. walk_from n f p.next (Some p.kind) (with_body b p.kind (drop (at + 4) f)))
+            → (x : Result Piece Refusal) → piece_at f at last ≡ x → at < length f
+            → Means (on_accepted x Err λ p. walk_from n f p.next (Some p.kind) (with_body b p.kind (drop (at + 4) f)))
         go later (Ok p) e i =
             let a = piece_ok (word_at (drop at f) 0) (word_at (drop at f) 2) (length (drop at f)) at last p (sym (at_rest at last) ∙ e) in
             later (with_body b p.kind (drop (at + 4) f)) (Some p.kind) p.next (have_more b last at p h e) (omega (arith, a.next))
@@ -319,9 +327,8 @@ module _ (f : List ℕ) where
     -- what a file is read for
     ends : (g : Option (List ℕ)) (t c : Option ℕ) (o : Option (List ℕ)) → f ≡ pieces_spelled (parts g t c o) → AreLong (parts g t c o)
         → MatchResult (complete (parts g t c o)) (Spells f) (IsFault f)
-    ends None t c o e a = record { found = parts None t c o; long = a; rest = []; begins = e ∙ sym (append-nil (pieces_spelled (parts None t c o))); broken = refl }
-    ends (Some g) None c o e a =
-        record { found = parts (Some g) None c o; long = a; rest = []; begins = e ∙ sym (append-nil (pieces_spelled (parts (Some g) None c o))); broken = refl }
+    ends None t c o e a = record { found = parts None t c o; long = a; rest = []; begins = e ∙ sym (append-nil _); broken = refl }
+    ends (Some g) None c o e a = record { found = parts (Some g) None c o; long = a; rest = []; begins = e ∙ sym (append-nil _); broken = refl }
     ends (Some g) (Some t) c o e a = record { long = a; spelled = e }
 
     pieces_mean : MatchResult (pieces_of f) (Spells f) (IsFault f)
@@ -339,7 +346,8 @@ module _ (f : List ℕ) where
     is : drop at f ≡ rest
 
   -- it takes a piece for what it is
-  past_piece : (b : Found) (kind : Kind) (body rest : List ℕ) → Past b (piece kind body ++ rest) → length body ≡ body_length kind → rises (last_kind b) kind ≡ true
+  past_piece : (b : Found) (kind : Kind) (body rest : List ℕ) → Past b (piece kind body ++ rest)
+      → length body ≡ body_length kind → rises (last_kind b) kind ≡ true
       → (new : Found) → with_body b kind (body ++ rest) ≡ new → last_kind new ≡ Some kind → Past new rest
   unfolding piece
   past_piece b kind body rest h l r new e k =
@@ -347,13 +355,15 @@ module _ (f : List ℕ) where
       let whole : 4 + n ≤ length (drop h.at f) = rw h.is (omega (arith, length-append body rest)) in
       let w : word_at (drop h.at f) 0 ≡ n = rw h.is (two_again n) in
       let v : word_at (drop h.at f) 2 ≡ number_of kind = rw h.is (two_again (number_of kind)) in
-      let p : piece_at f h.at (last_kind b) ≡ Ok (record { kind = kind; next = h.at + 4 + n }) =
+      let q : Piece = record { kind = kind; next = h.at + 4 + n } in
+      let p : piece_at f h.at (last_kind b) ≡ Ok q =
       at_rest h.at (last_kind b) ∙ rw (w, v) (piece_fits n (number_of kind) (length (drop h.at f)) h.at (last_kind b) kind whole (kind_again kind) r l) in
       let left : drop (h.at + 4) f ≡ body ++ rest = sym (drop-drop 4 h.at f) ∙ ap (λ x. drop 4 x) h.is in
-      let on = walking_on f b (last_kind b) h.at h.walking (record { kind = kind; next = h.at + 4 + n }) (omega (arith, whole, length-drop h.at f)) (omega arith) (sym p) in
+      let on = walking_on f b (last_kind b) h.at h.walking q (omega (arith, whole, length-drop h.at f)) (omega arith) (sym p) in
+      let bodies : with_body b kind (drop (h.at + 4) f) ≡ new = ap (λ x. with_body b kind x) left ∙ e in
       record {
         at = h.at + 4 + n;
-        walking = subst (λ x. Walking f new x (h.at + 4 + n)) (sym k) (subst (λ x. Walking f x (Some kind) (h.at + 4 + n)) (ap (λ x. with_body b kind x) left ∙ e) on);
+        walking = subst (λ x. Walking f new x (h.at + 4 + n)) (sym k) (subst (λ x. Walking f x (Some kind) (h.at + 4 + n)) bodies on);
         is = sym (drop-drop n (h.at + 4) f) ∙ ap (λ x. drop n x) left ∙ drop_body body rest;
       }
     where
@@ -364,13 +374,15 @@ module _ (f : List ℕ) where
   take_body : (n : ℕ) (xs ys : List ℕ) → length xs ≡ n → take n (xs ++ ys) ≡ xs
   take_body n xs ys e = rw (← e) (take-append_seam xs ys)
 
-  past_grid : (g : Option (List ℕ)) (rest : List ℕ) → IfSome g (λ body. length body ≡ 81) → Past no_bodies (piece_if Grid g ++ rest) → Past (parts g None None None) rest
+  past_grid : (g : Option (List ℕ)) (rest : List ℕ) → IfSome g (λ body. length body ≡ 81)
+      → Past no_bodies (piece_if Grid g ++ rest) → Past (parts g None None None) rest
   past_grid None rest l h = h
   past_grid (Some body) rest l h =
-      past_piece no_bodies Grid body rest h l refl (parts (Some body) None None None) (ap (λ x. parts (Some x) None None None) (take_body 81 body rest l)) refl
+      past_piece no_bodies Grid body rest h l refl (parts (Some body) None None None)
+      (ap (λ x. parts (Some x) None None None) (take_body 81 body rest l)) refl
 
-  past_technique : (g : Option (List ℕ)) (t : Option ℕ) (rest : List ℕ) → Past (parts g None None None) (piece_if Technique (option_map (λ n. n ∷ []) t) ++ rest)
-      → Past (parts g t None None) rest
+  past_technique : (g : Option (List ℕ)) (t : Option ℕ) (rest : List ℕ)
+      → Past (parts g None None None) (piece_if Technique (option_map (λ n. n ∷ []) t) ++ rest) → Past (parts g t None None) rest
   past_technique g None rest h = h
   past_technique g (Some n) rest h = past_piece (parts g None None None) Technique (n ∷ []) rest h refl (rising g) (parts g (Some n) None None) refl refl
     where
@@ -382,7 +394,8 @@ module _ (f : List ℕ) where
       → Past (parts g t c None) rest
   past_ceiling g t None rest h = h
   past_ceiling g t (Some n) rest h =
-      past_piece (parts g t None None) Ceiling (four_bytes n) rest h refl (rising g t) (parts g t (Some n) None) (ap (λ x. parts g t (Some x) None) (four_again n)) refl
+      past_piece (parts g t None None) Ceiling (four_bytes n) rest h refl (rising g t) (parts g t (Some n) None)
+      (ap (λ x. parts g t (Some x) None) (four_again n)) refl
     where
       rising : (g : Option (List ℕ)) (t : Option ℕ) → rises (last_kind (parts g t None None)) Ceiling ≡ true
       rising None None = refl
@@ -393,7 +406,8 @@ module _ (f : List ℕ) where
       → Past (parts g t c None) (piece_if Order o ++ rest) → Past (parts g t c o) rest
   past_order g t c None rest l h = h
   past_order g t c (Some body) rest l h =
-      past_piece (parts g t c None) Order body rest h l (rising g t c) (parts g t c (Some body)) (ap (λ x. parts g t c (Some x)) (take_body 2916 body rest l)) refl
+      past_piece (parts g t c None) Order body rest h l (rising g t c) (parts g t c (Some body))
+      (ap (λ x. parts g t c (Some x)) (take_body 2916 body rest l)) refl
     where
       rising : (g : Option (List ℕ)) (t c : Option ℕ) → rises (last_kind (parts g t c None)) Order ≡ true
       rising None None None = refl
@@ -434,7 +448,8 @@ module _ (f : List ℕ) where
       missing : (b : Found) → first_broken (rules_after b []) ≡ Some r → complete b ≡ Err r
       missing b = cases b.grid b.technique
         where
-          cases : (g : Option (List ℕ)) (t : Option ℕ) → first_broken (rule (is_some g && is_some t) PieceMissing ∷ []) ≡ Some r → complete (parts g t b.ceiling b.order) ≡ Err r
+          cases : (g : Option (List ℕ)) (t : Option ℕ) → first_broken (rule (is_some g && is_some t) PieceMissing ∷ []) ≡ Some r
+              → complete (parts g t b.ceiling b.order) ≡ Err r
           cases None t e = let q : PieceMissing ≡ r = cc in ap (λ x. Err x) q
           cases (Some g) None e = let q : PieceMissing ≡ r = cc in ap (λ x. Err x) q
           cases (Some g) (Some t) e = absurd (let z : ◌≡◌ {A = ℕ} 0 1 = cc in omega arith)
@@ -452,10 +467,10 @@ module _ (f : List ℕ) where
           let p = h (x ∷ rest) e in
           let long : length f ≡ length (pieces_spelled w.found) + suc (length rest) = ap length e ∙ length-append (pieces_spelled w.found) (x ∷ rest) in
           let place : length (pieces_spelled w.found) ≡ p.at = omega (arith, long, length-drop p.at f, ap length p.is) in
-          let told : first_broken (piece_rules (last_kind w.found) p.at (drop p.at f)) ≡ Some r =
-          rw (p.is, ← place) k in
-          let d = walking_refused f w.found (last_kind w.found) p.at p.walking r (omega (arith, long, place))
-          (refused (piece_at f p.at (last_kind w.found)) (ap (λ x. result_err x) (at_rest p.at (last_kind w.found)) ∙ rest_broken (last_kind w.found) p.at (drop p.at f) ∙ told)) in
+          let last = last_kind w.found in
+          let told : first_broken (piece_rules last p.at (drop p.at f)) ≡ Some r = rw (p.is, ← place) k in
+          let err : result_err (piece_at f p.at last) ≡ Some r = ap (λ x. result_err x) (at_rest p.at last) ∙ rest_broken last p.at (drop p.at f) ∙ told in
+          let d = walking_refused f w.found last p.at p.walking r (omega (arith, long, place)) (refused (piece_at f p.at last) err) in
           rw (← d) refl
 
 -- A file is accepted exactly where it spells some bodies, with these, and refused exactly where it has a fault, by it.

@@ -43,7 +43,8 @@ module _ (f : List ℕ) where
     step p h q = go w.steps w.enough w.same
       where
         go : (n : ℕ) → length f ≤ at + n → walk_from n f at last b ≡ walked f
-            → (n : ℕ) × (length f ≤ at + suc n) × (on_accepted p Err (λ p. walk_from n f p.next (Some p.kind) (with_body b p.kind (drop (at + 4) f))) ≡ walked f)
+            → (n : ℕ) × (length f ≤ at + suc n)
+            × (on_accepted p Err (λ p. walk_from n f p.next (Some p.kind) (with_body b p.kind (drop (at + 4) f))) ≡ walked f)
         go zero m e = absurd (omega arith)
         go (suc n) m e = (n, m, rw (lt-ltb at (length f) h, ← q) at e)
 

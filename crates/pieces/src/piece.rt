@@ -80,7 +80,8 @@ impl Kind {
 fn piece_at(file: &[u8], at: usize, last: Option<Kind>) -> Result<Piece, Refusal>
     requires { at < length file.now }
     ensures value { result ≡ piece_at file.now at last }
-    ensures within { IfOk result λ p. (p.next ≡ at + 4 + body_length p.kind) × (p.next ≤ length file.now) }
+    ensures within { IfOk result λ p. (p.next ≡ at + 4 + body_length p.kind)
+        × (p.next ≤ length file.now) }
 {
     let left = file.len() - at;
     if left < 4 {
@@ -149,12 +150,13 @@ fn walk(file: &[u8]) -> Result<Found, Refusal>
     Ok(found)
 }
 
-// The layout software's part: its pieces, refusals 31 to 33, then 34 where grid or technique is missing.
+/// The bodies of a file's pieces, which are copies. It accepts exactly the files that spell some bodies, and answers these; and it refuses exactly the files
+/// that have a fault, by it, the first one: 31, 32 or 33 at a piece's place, or 34 at the end where grid or technique is missing.
 #[tactic(auto, unfolding(crate::specs::Pieces::pieces_of))]
 pub fn read_pieces(file: &[u8]) -> Result<Bodies, Refusal>
     ensures exact { result ≡ pieces_of file.now }
-    ensures accepted { (bodies : _) → (result ≡ Ok bodies) ↔ Spells file.now bodies }
-    ensures refused { (refusal : _) → (result ≡ Err refusal) ↔ IsFault file.now refusal }
+    ensures accepted { (bodies : Bodies) → (result ≡ Ok bodies) ↔ Spells file.now bodies }
+    ensures refused { (refusal : Refusal) → (result ≡ Err refusal) ↔ IsFault file.now refusal }
 {
     walk(file)?.complete()
 }

@@ -45,7 +45,8 @@ fn tell(found: Found, first: &mut [u8], second: &mut [u8]) -> u32
 #[tactic(auto, unfolding(crate::specs::Call::search_call))]
 pub fn search(grid: &[u8], first: &mut [u8], second: &mut [u8]) -> Result<u32, Refusal>
     ensures exact { (result, first.new, second.new) ≡ search_call grid.now first.old second.old }
-    ensures refused { result_err result ≡ first_broken (search_rules grid.now first.old second.old) }
+    ensures refused { result_err result
+        ≡ first_broken (search_rules grid.now first.old second.old) }
     ensures err { OnErr result ((first.new ≡ first.old) × (second.new ≡ second.old)) }
     ensures ok { IfOk result (λ count. Reports grid.now count first.new second.new) }
 {

@@ -6,4 +6,5 @@ use Rattle.exploration.proofs.Reports.{found_reports}
 use Rattle.exploration.proofs.find.Goals as goal
 
 pub returns-clause-reports : goal.returns-clause-reports
-returns-clause-reports c = subst (λ f. Reports c.args.grid.now (count_of f) (first_of f) (second_of f)) (sym c.completions_found.ensures) (found_reports c.args.grid.now)
+returns-clause-reports c =
+    subst (λ f. Reports c.args.grid.now (count_of f) (first_of f) (second_of f)) (sym c.completions_found.ensures) (found_reports c.args.grid.now)

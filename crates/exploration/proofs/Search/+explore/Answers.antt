@@ -28,7 +28,8 @@ filled : (m : List ℕ) (n : ℕ) → ((k : ℕ) → k < n → is_open m k ≡ f
 filled m n f k h = closed_some m k (f k h)
 
 -- the branch of digit d + 1 of the first open cell
-module _ (m : List ℕ) (at : ℕ) (e : FirstOpen m (Some at)) (i : IsMarks m) (d : ℕ) (few : d < 9) {st : State} (s : ComesTo Extended (With (has m) (pos (suc (9 * at + d)))) (Ok st)) where
+module _ (m : List ℕ) (at : ℕ) (e : FirstOpen m (Some at)) (i : IsMarks m) (d : ℕ) (few : d < 9) {st : State}
+    (s : ComesTo Extended (With (has m) (pos (suc (9 * at + d)))) (Ok st)) where
   some_more : below m at (d + 1) ≡ below m at d ++ left st.marks
   some_more = branch_left m i at e.0 (filled m at e.2) d few s
 
@@ -57,7 +58,9 @@ loop-digit-init t c =
 pub explore-more-requires : goal.explore-more-requires
 explore-more-requires t c =
     let s = c.in-Ok.ensures in
-    (omega (arith, c.decreases, fewer_open c.args.state.now.marks c.in-Some.cell c.in-Some.ensures c.requires.marks.marks c.loop-digit.digit (omega (arith, c.loop-digit-test.true)) s), s.state)
+    let m = c.args.state.now.marks in
+    let fewer = fewer_open m c.in-Some.cell c.in-Some.ensures c.requires.marks.marks c.loop-digit.digit (omega (arith, c.loop-digit-test.true)) s in
+    (omega (arith, c.decreases, fewer), s.state)
 
 pub returns-then-is_several : goal.returns-then-is_several
 returns-then-is_several t c =
@@ -77,17 +80,19 @@ returns-then-is_several t c =
 pub loop-digit-preserved-in_default-close_true : goal.loop-digit-preserved-in_default-close_true
 loop-digit-preserved-in_default-close_true t c =
     let m : List ℕ = c.args.state.now.marks in
-    let first : FirstOpen m (Some c.in-Some.cell) = c.in-Some.ensures in (
-      omega arith,
-      c.loop-digit.invariant.1 ∙ ap found_of (sym (branch_none m c.requires.marks.marks c.in-Some.cell first.0 (filled m c.in-Some.cell first.2) c.loop-digit.digit (omega (arith, c.loop-digit-test.true)) c.in_default-close_true.ensures.answer)),
-    )
+    let cell = c.in-Some.cell in
+    let first : FirstOpen m (Some cell) = c.in-Some.ensures in
+    let few : c.loop-digit.digit < 9 = omega (arith, c.loop-digit-test.true) in
+    let same = branch_none m c.requires.marks.marks cell first.0 (filled m cell first.2) c.loop-digit.digit few c.in_default-close_true.ensures.answer in
+    (omega arith, c.loop-digit.invariant.1 ∙ ap found_of (sym same))
 
 pub loop-digit-preserved-then-refutes : goal.loop-digit-preserved-then-refutes
 loop-digit-preserved-then-refutes t c =
-    let m : List ℕ = c.args.state.now.marks in (
-      omega arith,
-      c.loop-digit.invariant.1 ∙ ap found_of (sym (nothing_more m c.in-Some.cell c.in-Some.ensures c.requires.marks.marks c.loop-digit.digit (omega (arith, c.loop-digit-test.true)) c.in-Ok.ensures (c.refutes.ensures c.if-refutes.true))),
-    )
+    let m : List ℕ = c.args.state.now.marks in
+    let few : c.loop-digit.digit < 9 = omega (arith, c.loop-digit-test.true) in
+    let ruled_out = c.refutes.ensures c.if-refutes.true in
+    let same = nothing_more m c.in-Some.cell c.in-Some.ensures c.requires.marks.marks c.loop-digit.digit few c.in-Ok.ensures ruled_out in
+    (omega arith, c.loop-digit.invariant.1 ∙ ap found_of (sym same))
 
 pub loop-digit-preserved : goal.loop-digit-preserved
 loop-digit-preserved t c =

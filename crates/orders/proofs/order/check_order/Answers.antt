@@ -40,7 +40,8 @@ returns-in-Some c =
     let o = c.args.order.now in
     let long = c.if-order-ne-ENTRIES.false in
     let w = found (length o) (first_no_literal o) c.in-Some.ensures in
-    let e : Err (OrderEntry c.in-Some.i) ≡ order_check o = rw (eq-eqb (length o) 1458 long, lt-ltb (first_no_literal o) 1458 (omega (arith, w.0, w.1, long)), w.1) in
+    let e : Err (OrderEntry c.in-Some.i) ≡ order_check o =
+    rw (eq-eqb (length o) 1458 long, lt-ltb (first_no_literal o) 1458 (omega (arith, w.0, w.1, long)), w.1) in
     record { exact = e; refused = order_told o _ e; accepted = order_taken o _ e }
 
 pub first_repeat-requires : goal.first_repeat-requires
@@ -53,7 +54,9 @@ returns-in-Some-first_repeat c =
     let long = c.if-order-ne-ENTRIES.false in
     let n = none_found (goal.at.returns-in-Some-first_repeat c).In_default in
     let w = found 1458 (first_repeat o) c.in-Some-first_repeat.ensures in
-    let e : Err (OrderRepeat c.in-Some-first_repeat.i) ≡ order_check o = rw (eq-eqb (length o) 1458 long, le-ltb (first_no_literal o) 1458 (omega (arith, n, long)), lt-ltb (first_repeat o) 1458 (omega (arith, w.0, w.1)), w.1) in
+    let literals = le-ltb (first_no_literal o) 1458 (omega (arith, n, long)) in
+    let e : Err (OrderRepeat c.in-Some-first_repeat.i) ≡ order_check o =
+    rw (eq-eqb (length o) 1458 long, literals, lt-ltb (first_repeat o) 1458 (omega (arith, w.0, w.1)), w.1) in
     record { exact = e; refused = order_told o _ e; accepted = order_taken o _ e }
 
 pub returns-in-None : goal.returns-in-None
@@ -63,5 +66,6 @@ returns-in-None c =
     let long = c.if-order-ne-ENTRIES.false in
     let n = none_found (goal.at.returns-in-None c).In_default in
     let w = found 1458 (first_repeat o) c.in-None.ensures in
-    let e : Ok tt ≡ order_check o = rw (eq-eqb (length o) 1458 long, le-ltb (first_no_literal o) 1458 (omega (arith, n, long)), le-ltb (first_repeat o) 1458 (omega (arith, w))) in
+    let literals = le-ltb (first_no_literal o) 1458 (omega (arith, n, long)) in
+    let e : Ok tt ≡ order_check o = rw (eq-eqb (length o) 1458 long, literals, le-ltb (first_repeat o) 1458 (omega (arith, w))) in
     record { exact = e; refused = order_told o _ e; accepted = order_taken o _ e }

@@ -32,5 +32,6 @@ loop-k-preserved c =
 pub returns : goal.returns
 returns c =
     let b = c.loop-k.invariant in
-    let e : c.loop-k.order ≡ default_order = ext_get_or (pos 0) c.loop-k.order default_order (b.long ∙ sym default_long) (λ j h. b.same j (omega (arith, b.long))) in
+    let e : c.loop-k.order ≡ default_order =
+    ext_get_or (pos 0) c.loop-k.order default_order (b.long ∙ sym default_long) (λ j h. b.same j (omega (arith, b.long))) in
     record { exact = e; accepted = ap order_check e ∙ default_accepted }

@@ -33,14 +33,16 @@ table_place-at-requires c =
 pub bounds-seen-at : goal.bounds-seen-at
 bounds-seen-at c =
     let l = entry c.args.order.now c.loop-i.i in
-    omega (arith, c.table_place-at.ensures ∙ ap table_place (read l (record { sfits = omega arith })), place_below l (c.requires.1 c.loop-i.i c.loop-i-test.true))
+    let at = c.table_place-at.ensures ∙ ap table_place (read l (record { sfits = omega arith })) in
+    omega (arith, at, place_below l (c.requires.1 c.loop-i.i c.loop-i-test.true))
 
 pub returns-then-seen-at : goal.returns-then-seen-at
 returns-then-seen-at c =
     let o = c.args.order.now in
     let l = c.loop-i in
     let t = c.loop-i-test.true in
-    let r = entry_read o l.i l.seen l.invariant.0 (c.requires.1 l.i t) _ (c.table_place-at.ensures ∙ ap table_place (read (entry o l.i) (record { sfits = omega arith }))) in
+    let at = c.table_place-at.ensures ∙ ap table_place (read (entry o l.i) (record { sfits = omega arith })) in
+    let r = entry_read o l.i l.seen l.invariant.0 (c.requires.1 l.i t) _ at in
     let e = is_first o l.i (omega (arith, t)) l.invariant.1 (λ h. sym r.is ∙ c.if-seen-at.true) in
     rw (← e, lt-ltb l.i 1458 (omega (arith, t, c.requires.0)))
 
@@ -48,7 +50,8 @@ pub loop-i-preserved : goal.loop-i-preserved
 loop-i-preserved c =
     let o = c.args.order.now in
     let l = c.loop-i in
-    let r = entry_read o l.i l.seen l.invariant.0 (c.requires.1 l.i c.loop-i-test.true) _ (c.table_place-at.ensures ∙ ap table_place (read (entry o l.i) (record { sfits = omega arith }))) in
+    let at = c.table_place-at.ensures ∙ ap table_place (read (entry o l.i) (record { sfits = omega arith })) in
+    let r = entry_read o l.i l.seen l.invariant.0 (c.requires.1 l.i c.loop-i-test.true) _ at in
     (r.more, λ k b. below_more (λ j. repeats o j ≡ false) l.i l.invariant.1 (sym r.is ∙ c.if-seen-at.false) k b)
 
 pub returns : goal.returns
