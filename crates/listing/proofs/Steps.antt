@@ -62,28 +62,28 @@ pub piece_more : {a b c d d' : Option (List ℕ)} (f : List ℕ → List ℕ) {g
 piece_more {a} {b} {c} {d} f {g} b' bs p given q =
     let before : Advances c d (λ unread. f ((p.input ++ bs) ++ unread)) (λ unread. g (bs ++ unread)) =
     record {
-      front = p.then.front;
-      written = p.then.written;
-      rest = λ unread. ap f (append_assoc p.input bs unread) ∙ p.then.rest (bs ++ unread);
+      front = p.holds.front;
+      written = p.holds.written;
+      rest = λ unread. ap f (append_assoc p.input bs unread) ∙ p.holds.rest (bs ++ unread);
     } in
-    record { input = p.input ++ bs; given = Consumes-trans a b b' p.input bs p.given given; then = advances_then before q }
+    record { input = p.input ++ bs; given = Consumes-trans a b b' p.input bs p.given given; holds = advances_then before q }
 
 -- none,
 pub none_more : {a b : Option (List ℕ)} {P : List ℕ → Type 0} (b' : Option (List ℕ)) → Reads a b P → Keeps b b' → Reads a b' P
-none_more {a} {b} b' p same = record { input = p.input; given = Consumes-kept a b b' p.input p.given same; then = p.then }
+none_more {a} {b} b' p same = record { input = p.input; given = Consumes-kept a b b' p.input p.given same; holds = p.holds }
 
 -- and all of it, which is answered at its end
 module _ {a b c d d' : Option (List ℕ)} {f g h : List ℕ → List ℕ} (begun : Advances c d f g)
     (over : Reads a b (λ input. Advances d d' (λ unread. g (input ++ unread)) h)) where
   due : Advances c d' (λ unread. f (over.input ++ unread)) h
-  due = advances_then (record { front = begun.front; written = begun.written; rest = λ unread. begun.rest (over.input ++ unread) }) over.then
+  due = advances_then (record { front = begun.front; written = begun.written; rest = λ unread. begun.rest (over.input ++ unread) }) over.holds
 
   pub answered_all : (e : Option (List ℕ)) → Appends d' e (h []) → Reads a b (λ input. Appends c e (f input))
   answered_all e last =
       let all = advances_all e due [] last in
-      record { input = over.input; given = over.given; then = subst (λ l. Appends c e (f l)) (append-nil over.input) all }
+      record { input = over.input; given = over.given; holds = subst (λ l. Appends c e (f l)) (append-nil over.input) all }
 
   pub answered_front : {e : Option (List ℕ)} → AppendsFront d' e (h []) → Reads a b (λ input. AppendsFront c e (f input))
   answered_front {e} last =
       let front = advances_front due [] last in
-      record { input = over.input; given = over.given; then = subst (λ l. AppendsFront c e (f l)) (append-nil over.input) front }
+      record { input = over.input; given = over.given; holds = subst (λ l. AppendsFront c e (f l)) (append-nil over.input) front }

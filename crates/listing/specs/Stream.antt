@@ -9,7 +9,7 @@ use Rattle.listing.specs.declared.stream.Failure.TheVariants.{Read, Write}
 pub record Reads (left left' : Option (List ℕ)) (P : List ℕ → Type 0) : Type 0 where
   pub input : List ℕ
   pub given : Consumes left left' input
-  pub then : P input
+  pub holds : P input
 
 -- a writer has got a beginning of a text
 pub record AppendsFront (held held' : Option (List ℕ)) (text : List ℕ) : Type 0 where

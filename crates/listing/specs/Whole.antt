@@ -13,7 +13,8 @@ unfoldable pub lines_of : List ℕ → List (List ℕ)
 lines_of [] = []
 lines_of (b ∷ bs) = if b == 10 then [] ∷ lines_of bs else onto_first b (lines_of bs)
 
--- the output lines of lines that are numbered from n on. A number past 64 bits, to which no input of fewer than 2 ^ 64 bytes comes, is shown as the last of 64
+-- the output lines of lines that are numbered from n on. A number that 64 bits do not hold is shown as the greatest that they do: no input of fewer than
+-- 2 ^ 64 bytes has such a line
 unfoldable pub listed_from : ℕ → List (List ℕ) → List ℕ
 listed_from n [] = []
 listed_from n (line ∷ lines) = listed (min n (2 ^ 64 - 1)) line ++ listed_from (n + 1) lines

@@ -15,7 +15,7 @@ use std::io::{self, ErrorKind, Write};
 pub(crate) struct Lister {
     // The number of the line, as far as 64 bits go.
     number: u64,
-    // Its first 82 bytes.
+    // Its first 82 bytes: that is one more than a grid has, so they tell that it is too long.
     line: ArrayVec<u8, 82>,
     waiting: ArrayVec<u8, 4096>,
     ghost unended: { HasNoNewline line.items },
@@ -132,13 +132,13 @@ impl Lister {
     }
 }
 
-// Writes bytes, again where a signal interrupts it. Where it fails it has written a beginning of them.
+// Writes bytes, in as many writes as it takes. Where one fails, a beginning of them is written.
 fn write_all<W: Write>(writer: &mut W, bytes: &[u8]) -> io::Result<()>
     ensures ok { OnOk result (Appends (W.contents writer.old) (W.contents writer.new) bytes.now) }
     ensures err { OnErr result (AppendsFront (W.contents writer.old) (W.contents writer.new) bytes.now) }
 {
     let mut written = 0;
-    // A loop has an end: each turn writes a byte or more, or a signal has interrupted it.
+    // Turns are counted, since a call has to return: each writes a byte or more, or a signal has interrupted it.
     'writes: for _ in 0..u64::MAX {
         if bytes.len() <= written {
             return Ok(());

@@ -9,14 +9,14 @@ use Rattle.listing.proofs.stream.answer_all.Goals as goal
 pub returns-in_err-flush-clause-err : goal.returns-in_err-flush-clause-err
 returns-in_err-flush-clause-err g c =
     let p = err_from_is_err_and c.from_residual.result c.from_residual.ensures.1 in
-    rw p.1 (record { input = []; given = Consumes-nil _; then = rw (← c.new-lister.ensures []) (c.in_err-flush.ensures.err []) })
+    rw p.1 (record { input = []; given = Consumes-nil _; holds = rw (← c.new-lister.ensures []) (c.in_err-flush.ensures.err []) })
 
 pub returns-in_err-read-clause-err : goal.returns-in_err-read-clause-err
 returns-in_err-read-clause-err g c =
     let p = err_from_is_err_and c.from_residual-in_err-read.result c.from_residual-in_err-read.ensures.1 in
     let begun = advances_then (stays _ (λ unread. sym (c.new-lister.ensures unread))) c.in_ok-flush.ensures.ok in
     let over = c.in_err-read.ensures.err in
-    rw p.1 (record { input = over.input; given = over.given; then = advances_front begun over.input over.then })
+    rw p.1 (record { input = over.input; given = over.given; holds = advances_front begun over.input over.holds })
 
 pub returns-in_err-finish-clause-err : goal.returns-in_err-finish-clause-err
 returns-in_err-finish-clause-err g c =

@@ -15,7 +15,7 @@ returns-in_err-take_piece-in-Ok-clause-err g c =
     rw p.1 (record {
       input = so_far.input ++ take c.in-Ok.n c.read.new.buf;
       given = Consumes-trans _ _ _ _ _ so_far.given c.in-Ok.ensures.bytes.0;
-      then = advances_front so_far.then _ c.in_err-take_piece-in-Ok.ensures.err;
+      holds = advances_front so_far.holds _ c.in_err-take_piece-in-Ok.ensures.err;
     })
 
 pub reads-preserved : goal.reads-preserved
