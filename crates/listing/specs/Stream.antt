@@ -1,5 +1,5 @@
 -- What a run has read and written. A reader's bytes are those that it has left, and a writer's those that it holds, where they are known.
-use Rattle.std.specs.Prelude.{◌≡◌, Option, List, ◌++◌, ℕ}
+use Rattle.std.specs.Prelude.{◌≡◌, Option, Result, MatchResult, List, ◌++◌, ℕ}
 use Rattle.std.specs.Io.{StartsWith}
 use Rattle.std.specs.Io.KnownBytes.{Appends, Consumes}
 use Rattle.listing.specs.declared.stream.Failure.{Failure}
@@ -27,3 +27,7 @@ pub record Advances (held held' : Option (List ℕ)) (before after : List ℕ �
   pub front : List ℕ
   pub written : Appends held held' front
   pub rest : (unread : List ℕ) → before unread ≡ front ++ after unread
+
+-- what a step writes of what is to come: it advances, or it fails after a beginning of that, whatever is read from here on
+abbrev pub Steps : {T E : Type 0} → Option (List ℕ) → Option (List ℕ) → (List ℕ → List ℕ) → (List ℕ → List ℕ) → Result T E → Type 0
+Steps held held' before after result = MatchResult result (λ _. Advances held held' before after) (λ _. (unread : List ℕ) → AppendsFront held held' (before unread))
