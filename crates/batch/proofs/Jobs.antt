@@ -12,11 +12,10 @@ use lib.Seq.{take_all, take-append-le, drop-append-le, drop_at, get_or-take, get
 use Rattle.grid.specs.Counting.{total}
 use Rattle.clauses.specs.Clauses.{clauses_of}
 use Rattle.clauses.specs.Models.{givens}
-use Rattle.closure.specs.Job.{End, count_of, marks_of}
+use Rattle.closure.specs.Job.{End, count_of, marks_of, outcome_of}
 use Rattle.closure.proofs.Ceiling.{count_below}
 use Rattle.orders.specs.declared.technique.Technique.{Technique}
-use Rattle.trials.specs.Steps.{outcome_number}
-use Rattle.inference.specs.Call.{ending, job_end_of}
+use Rattle.inference.specs.Call.{job_end_of}
 use Rattle.batch.specs.Call.{grid_at, numbers_of, Done, done_after}
 
 part_below : (k i n : ℕ) → i < n → k * i + k ≤ k * n
@@ -71,7 +70,7 @@ module _ (t : Technique) (o : List ℤ) (g : List ℕ) (c : ℕ) where
   unfolding done_after
   numbers_at n i h = row_at_lem 2 (λ j. numbers_of (job_at j)) (λ j. (done j).numbers) refl (λ j. refl) n i (λ j b. refl) h
 
-  pub outcome_at_lem : (n i : ℕ) → i < n → get_or (done n).numbers (2 * i) 0 ≡ outcome_number (ending (job_at i))
+  pub outcome_at_lem : (n i : ℕ) → i < n → get_or (done n).numbers (2 * i) 0 ≡ outcome_of (job_at i)
   outcome_at_lem n i h =
       ap (λ j. get_or (done n).numbers j 0) (omega arith) ∙ number_at (done n).numbers (2 * i) 0 (omega arith) ∙ ap (λ l. get_or l 0 0) (numbers_at n i h)
 
@@ -82,3 +81,12 @@ module _ (t : Technique) (o : List ℤ) (g : List ℕ) (c : ℕ) where
   pub marks_at_lem : (n i : ℕ) → ((j : ℕ) → j < n → length (marks_of (job_at j)) ≡ 729) → i < n → take 729 (drop (729 * i) (done n).marks) ≡ marks_of (job_at i)
   unfolding done_after
   marks_at_lem n i long h = row_at_lem 729 (λ j. marks_of (job_at j)) (λ j. (done j).marks) refl (λ j. refl) n i long h
+
+  -- there is nothing else
+  pub marks_whole : (n : ℕ) → ((j : ℕ) → j < n → length (marks_of (job_at j)) ≡ 729) → length (done n).marks ≡ 729 * n
+  unfolding done_after
+  marks_whole n long = rows_long 729 (λ j. marks_of (job_at j)) (λ j. (done j).marks) refl (λ j. refl) n long
+
+  pub numbers_whole : (n : ℕ) → length (done n).numbers ≡ 2 * n
+  unfolding done_after
+  numbers_whole n = rows_long 2 (λ j. numbers_of (job_at j)) (λ j. (done j).numbers) refl (λ j. refl) n (λ j b. refl)

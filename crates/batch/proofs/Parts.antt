@@ -10,14 +10,15 @@ use lib.ListN.{length, set}
 use Rattle.clauses.specs.Clauses.{clauses_of}
 use Rattle.clauses.specs.Models.{givens}
 use Rattle.closure.specs.Job as job
-use Rattle.closure.specs.Job.{count_of, marks_of}
+use Rattle.closure.specs.Job.{count_of, marks_of, outcome}
 use Rattle.closure.proofs.Ceiling.{count_below}
 use Rattle.orders.specs.declared.technique.Technique.{Technique}
-use Rattle.trials.specs.Steps.{end, end_of, outcome_number}
+use Rattle.trials.specs.Steps.{end, end_of}
+use Rattle.closure.specs.Job.{outcome_number}
 use Rattle.trials.specs.declared.trial.End.{End}
 use Rattle.std.specs.Prelude.{Result, Ok}
 use Rattle.grid.specs.declared.Refusal.{Refusal}
-use Rattle.inference.specs.Call.{Given, ending, finished, job_end_of}
+use Rattle.inference.specs.Call.{Given, finished, job_end_of}
 use Rattle.batch.specs.Call.{numbers_of}
 use Rattle.batch.specs.Parts.{Filled}
 
@@ -29,7 +30,7 @@ written (x ∷ y ∷ []) o n h = refl
 written (x ∷ y ∷ z ∷ l) o n h = absurd (omega arith)
 
 -- what is told of a job is that of its end
-told : (e : job.End) (a : End) (m : List ℕ) → ◌≡◌ {A = Given} (Ok a, m) (finished e) → a ≡ end (ending e) (count_of e)
+told : (e : job.End) (a : End) (m : List ℕ) → ◌≡◌ {A = Given} (Ok a, m) (finished e) → a ≡ end (outcome e) (count_of e)
 told e a m p = same (ap (λ y. y.0) p)
   where
     same : {b : End} → ◌≡◌ {A = Result End Refusal} (Ok a) (Ok b) → a ≡ b

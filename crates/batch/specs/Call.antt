@@ -1,14 +1,13 @@
 -- The batch call: its answer, and what it leaves in the lent marks and in the answer list.
-use Rattle.std.specs.Prelude.{Bool, cond, ◌&&◌, List, [], ◌∷◌, ◌++◌, ℕ, zero, suc, ◌+◌, ◌*◌, ◌-◌, ◌/◌, ◌%◌, eqb, leb, ℤ, length, take, drop, Result, Ok, Err}
-use Rattle.grid.specs.Refusals.{on_accepted, bytes_check}
+use Rattle.std.specs.Prelude.{Bool, ◌==◌, cond, ◌&&◌, List, [], ◌∷◌, ◌++◌, ℕ, zero, suc, ◌+◌, ◌*◌, ◌-◌, ◌/◌, ◌%◌, eqb, leb, ℤ, length, take, drop, Option, Result, Ok, Err}
+use Rattle.grid.specs.Refusals.{rule, on_accepted, bytes_rule, bytes_check}
 use Rattle.grid.specs.declared.Refusal.{Refusal}
 use Rattle.grid.specs.declared.Refusal.TheVariants.{MarksLength, BatchLength, AnswersLength}
-use Rattle.closure.specs.Job.{End, count_of, marks_of}
-use Rattle.orders.specs.Order.{order_check}
-use Rattle.orders.specs.Technique.{technique_of}
+use Rattle.closure.specs.Job.{End, count_of, marks_of, outcome_of}
+use Rattle.orders.specs.Order.{order_rules, order_check}
+use Rattle.orders.specs.Technique.{technique_rule, technique_of}
 use Rattle.orders.specs.declared.technique.Technique.{Technique}
-use Rattle.trials.specs.Steps.{outcome_number}
-use Rattle.inference.specs.Call.{ending, job_end_of}
+use Rattle.inference.specs.Call.{job_end_of}
 
 -- 81 to 5,184 bytes in steps of 81: 1 to 64 grids end to end
 unfoldable pub is_batch : ℕ → Bool
@@ -27,13 +26,20 @@ lent_check bytes marks numbers =
     (Err MarksLength))
     (Err BatchLength)
 
+-- the rules of what the host lends: 47, that the bytes are a batch; 41, that there are 729 marks a grid; 48, that there are two numbers a grid
+unfoldable pub lent_rules : ℕ → ℕ → ℕ → List (Option Refusal)
+lent_rules bytes marks numbers =
+    rule (is_batch bytes) BatchLength
+    ∷ rule (marks == 729 * grids_in bytes) MarksLength
+    ∷ rule (numbers == 2 * grids_in bytes) AnswersLength ∷ []
+
 -- the i-th grid of a batch, counted from 0
 abbrev pub grid_at : List ℕ → ℕ → List ℕ
 grid_at g i = take 81 (drop (81 * i) g)
 
 -- what the answer list says of a job: the number of its outcome, and its count
 abbrev pub numbers_of : End → List ℕ
-numbers_of e = outcome_number (ending e) ∷ count_of e ∷ []
+numbers_of e = outcome_of e ∷ count_of e ∷ []
 
 -- what some jobs of a batch have come to: their marks, end to end, the numbers of the answer list, and the sum of their counts
 pub record Done : Type 0 where
@@ -66,6 +72,10 @@ refused m a r = (Err r, m, a)
 -- a batch that is not refused
 abbrev pub ran : Done → Given
 ran d = (Ok tt, d.marks, d.numbers)
+
+-- the rules of a batch call: those of what the host lends; 12, that each byte has a meaning; then those of the technique's number and of the order
+unfoldable pub batch_rules : List ℕ → ℕ → List ℤ → List ℕ → List ℕ → List (Option Refusal)
+batch_rules g n o m a = lent_rules (length g) (length m) (length a) ++ (bytes_rule g ∷ (technique_rule n ∷ order_rules o))
 
 -- the host's part, then the keyer's, the technique, and the operator's check of the order
 unfoldable pub batch_call : List ℕ → ℕ → List ℤ → ℕ → List ℕ → List ℕ → Given

@@ -4,10 +4,14 @@
 //     batch    the batch call, with its refusals
 #![tactic(auto)]
 
-ghost use Rattle.std.specs.Prelude.{◌≡◌, ◌+◌, ◌*◌, ◌-◌, ◌≤◌, length};
+ghost use Rattle.std.specs.Prelude.{◌≡◌, ◌+◌, ◌*◌, ◌-◌, ◌≤◌, length, Ok, OnOk, OnErr};
+ghost use Rattle.std.specs.Result.{result_err};
+ghost use Rattle.grid.specs.Refusals.{first_broken};
 ghost use Rattle.inference.specs.Call.{job_end_of};
-ghost use Rattle.batch.specs.Call.{is_batch, lent_check, jobs_of, batch_call};
+ghost use Rattle.inference.specs.Job.{OfTechnique};
+ghost use Rattle.batch.specs.Call.{is_batch, lent_check, jobs_of, batch_rules, batch_call};
 ghost use Rattle.batch.specs.Parts.{Lent, Filled, AllFilled};
+ghost use Rattle.batch.specs.Says.{BatchSays};
 
 use grid::{Refusal, check_bytes};
 use inference::job::{finish, run};
@@ -89,8 +93,30 @@ fn run_each(
     }
 }
 
-// The batch call. The answer list tells of each job. The technique comes as a number from hosts.
+// The batch call, where what is lent has its lengths.
 #[tactic(auto, using(crate::proofs::Checks::lent_accepted), unfolding(crate::specs::Call::batch_call))]
+fn checked_batch(
+    grids: &[u8],
+    technique: u32,
+    order: &[i16],
+    ceiling: u32,
+    marks: &mut [u8],
+    answers: &mut [u32],
+) -> Result<(), Refusal>
+    requires { lent_check (length grids.now) (length marks.old) (length answers.old) ≡ Ok tt }
+    ensures { (result, marks.new, answers.new)
+        ≡ batch_call grids.now technique order.now ceiling marks.old answers.old }
+{
+    check_bytes(grids)?;
+    let known = Technique::try_from(technique)?;
+    let checked = Order::checked(order)?;
+    run_each(known, grids, &checked, ceiling, marks, answers);
+    Ok(())
+}
+
+/// The batch call, which is lent 1 to 64 grids end to end, 729 marks and two numbers a grid, and an order of 1,458 literals; the technique comes as its
+/// number. It refuses with 47, 41, 48, 12, 21, 22, 23 and 24, tested in this order; the place of 12 is one in the whole batch.
+#[tactic(auto, unfolding(crate::specs::Call::batch_call))]
 pub fn batch(
     grids: &[u8],
     technique: u32,
@@ -99,13 +125,14 @@ pub fn batch(
     marks: &mut [u8],
     answers: &mut [u32],
 ) -> Result<(), Refusal>
-    ensures { (result, marks.new, answers.new)
+    ensures exact { (result, marks.new, answers.new)
         ≡ batch_call grids.now technique order.now ceiling marks.old answers.old }
+    ensures refused { result_err result
+        ≡ first_broken (batch_rules grids.now technique order.now marks.old answers.old) }
+    ensures err { OnErr result ((marks.new ≡ marks.old) × (answers.new ≡ answers.old)) }
+    ensures ok { OnOk result (OfTechnique technique (λ t.
+        BatchSays t grids.now order.now ceiling marks.new answers.new)) }
 {
     check_lent(grids.len(), marks.len(), answers.len())?;
-    check_bytes(grids)?;
-    let known = Technique::try_from(technique)?;
-    let checked = Order::checked(order)?;
-    run_each(known, grids, &checked, ceiling, marks, answers);
-    Ok(())
+    checked_batch(grids, technique, order, ceiling, marks, answers)
 }

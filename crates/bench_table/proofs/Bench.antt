@@ -29,7 +29,7 @@ use Rattle.closure.specs.Job.{End, opened, stopped, job_end, outcome_of, count_o
 use Rattle.closure.proofs.ClauseSets.{well_formed}
 use Rattle.orders.specs.Order.{order_check}
 use Rattle.orders.proofs.Orders.{accepted_order, accepted_literal}
-use Rattle.bench_table.specs.Bench.{Row, end_of, Expected, Holds, Every, dots, blank_row, blank_rows, full_rows, table}
+use Rattle.bench_table.specs.Bench.{Row, end_of, Expected, Holds, Every, dots, blank_row, blank_rows, full_rows, BenchTable}
 use Rattle.bench_table.proofs.Computed.{none, ◌also◌, corner_rows_lem, ones_rows_lem, fives_rows_lem, no_nine_rows_lem}
 use Rattle.bench_table.proofs.FullGrid.{full_solved}
 use Rattle.bench_table.proofs.Quiet.{Possible, quiet_job}
@@ -80,7 +80,7 @@ blank_end ceiling = cond (leb 1458 ceiling) (opened blank 1458) (stopped blank c
 
 blank_job : (ceiling : ℕ) (order : List ℤ) → order_check order ≡ Ok tt → job_end (clauses_of Minimal) ceiling true order (givens dots) ≡ blank_end ceiling
 blank_job ceiling order h =
-    rw (dots_givens, quiet_job (clauses_of Minimal) (well_formed Minimal) (possible Minimal) ceiling order (accepted_literal order h), (accepted_order order h).0)
+    rw (dots_givens, quiet_job (clauses_of Minimal) (well_formed Minimal) (possible Minimal) ceiling order (accepted_literal order h), (accepted_order order h).long)
     refl
 
 blank_holds : (ceiling outcome count : ℕ) → outcome_of (blank_end ceiling) ≡ outcome → count_of (blank_end ceiling) ≡ count → Holds (blank_row ceiling outcome count)
@@ -111,5 +111,5 @@ full_rows_lem ceiling =
 
 infixr 4 ◌then◌
 -- every row of the table holds
-pub bench : (ceiling : ℕ) → Every (table ceiling)
+pub bench : BenchTable
 bench c = blank_rows_lem then corner_rows_lem c then ones_rows_lem c then fives_rows_lem c then no_nine_rows_lem c then full_rows_lem c

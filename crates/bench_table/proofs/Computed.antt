@@ -13,7 +13,7 @@ use lib.IntN.{ℤ}
 use lib.ListN.{get_or}
 use Rattle.grid.specs.Grid.{is_digit, digit_of}
 use Rattle.grid.proofs.Table.{and_iff}
-use Rattle.clauses.specs.Clauses.{F1, F2, F3, F4, F5, F6, F7, F8, F9, minimal, extended, clauses_of}
+use Rattle.clauses.specs.Clauses.{F1, F2, F3, F4, F5, F6, F7, F8, F9, families, minimal, extended, clauses_of}
 use Rattle.clauses.specs.Models.{givens}
 use Rattle.closure.specs.Marks.{has, put, mark, decided, decided_in, blank}
 use Rattle.closure.specs.Propagation.{Answer, clash, closed, bind, remaining, unit_closure, join}
@@ -47,19 +47,19 @@ marks_are zeros e t = contradiction_zeros e (eqb→eq (outcome_of e) 4 t)
 
 -- the row's job by quick sweeps
 abbrev quick_end : Row → List ℤ → End
-quick_end r order = start (clauses_of r.set) r.ceiling r.trials order (bind (join blank (givens r.grid)) (quick_sweeps 730 (clauses_of r.set)))
+quick_end r order = start (clauses_of r.clause_set) r.ceiling r.trials order (bind (join blank (givens r.grid)) (quick_sweeps 730 (clauses_of r.clause_set)))
 
 quick_end_lem : (r : Row) (order : List ℤ) → quick_end r order ≡ end_of r order
 unfolding end_of job_end unit_closure
-quick_end_lem r order = ap (start (clauses_of r.set) r.ceiling r.trials order) (same (join blank (givens r.grid)))
+quick_end_lem r order = ap (start (clauses_of r.clause_set) r.ceiling r.trials order) (same (join blank (givens r.grid)))
   where
-    same : (a : Answer) → bind a (quick_sweeps 730 (clauses_of r.set)) ≡ bind a (unit_closure (clauses_of r.set))
+    same : (a : Answer) → bind a (quick_sweeps 730 (clauses_of r.clause_set)) ≡ bind a (unit_closure (clauses_of r.clause_set))
     same clash = refl
-    same (closed m) = quick_sweeps_lem 730 (clauses_of r.set) m
+    same (closed m) = quick_sweeps_lem 730 (clauses_of r.clause_set) m
 
 -- every row's test passes; all that its job opens is opened here
 unfoldable rows_test : List Row → List ℤ → Bool
-unfolding quick_sweeps givens is_digit digit_of clauses_of minimal extended F1 F2 F3 F4 F5 F6 F7 F8 F9
+unfolding quick_sweeps givens is_digit digit_of clauses_of families minimal extended F1 F2 F3 F4 F5 F6 F7 F8 F9
     has put mark decided_in remaining join corner ones fives no_nine
 rows_test [] order = true
 rows_test (r ∷ rs) order = expected_test r (quick_end r order) && rows_test rs order

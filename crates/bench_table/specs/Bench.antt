@@ -28,7 +28,7 @@ MarksAre zeros m = m ≡ blank
 -- a row: the grid, the technique by its set and its trials, the ceiling; and what is expected: the outcome's number, the count, the marks
 pub record Row : Type 0 where
   pub grid : List ℕ
-  pub set : ClauseSet
+  pub clause_set : ClauseSet
   pub trials : Bool
   pub ceiling : ℕ
   pub outcome : ℕ
@@ -37,7 +37,7 @@ pub record Row : Type 0 where
 
 -- the end of a row's job, along an order of trials
 unfoldable pub end_of : Row → List ℤ → End
-end_of r order = job_end (clauses_of r.set) r.ceiling r.trials order (givens r.grid)
+end_of r order = job_end (clauses_of r.clause_set) r.ceiling r.trials order (givens r.grid)
 
 -- an end is as the row expects
 pub record Expected (r : Row) (e : End) : Type 0 where
@@ -81,7 +81,7 @@ no_nine = with 1 1 1 (with 1 2 2 (with 1 3 3 (with 1 4 4 (with 1 5 5 (with 1 6 6
 abbrev pub blank_row : ℕ → ℕ → ℕ → Row
 blank_row ceiling outcome count = record {
   grid = dots;
-  set = Minimal;
+  clause_set = Minimal;
   trials = true;
   ceiling = ceiling;
   outcome = outcome;
@@ -99,9 +99,9 @@ blank_rows = blank_row 0 3 0 ∷ blank_row 1 3 1 ∷ blank_row 1457 3 1457 ∷ b
 module _ (ceiling : ℕ) where
   -- a grid under technique 1 or 2: the set, the grid, the outcome, the marks. They count 0.
   abbrev pub unit_row : ClauseSet → List ℕ → ℕ → Marked → Row
-  unit_row set grid outcome marks = record {
+  unit_row clauses grid outcome marks = record {
     grid = grid;
-    set = set;
+    clause_set = clauses;
     trials = false;
     ceiling = ceiling;
     outcome = outcome;
@@ -132,3 +132,7 @@ module _ (ceiling : ℕ) where
   -- all of them
   abbrev pub table : List Row
   table = blank_rows ++ (corner_rows ++ (ones_rows ++ (fives_rows ++ (no_nine_rows ++ full_rows))))
+
+-- The bench table holds, under every ceiling of the rows that make no trials.
+abbrev pub BenchTable : Type 0
+BenchTable = (ceiling : ℕ) → Every (table ceiling)

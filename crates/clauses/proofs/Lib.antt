@@ -5,3 +5,4 @@ pub mod Numbers
 pub mod ShapeNumber
 pub mod Proper
 pub mod Signed
+pub mod Calls

@@ -18,6 +18,7 @@ use Rattle.grid.proofs.Completion.{digit_iff}
 use Rattle.clauses.specs.Literal.{Literal}
 use Rattle.clauses.specs.Clauses.{Clause, range, over, clauses_of}
 use Rattle.clauses.specs.Models.{Truth, holds, given_at, givens}
+use Rattle.clauses.specs.Numbers.{ShapeNumbers}
 use Rattle.clauses.specs.Shape.{IsShape, InSet, clause_of, shape_of, box_of, rows_pair, number_of}
 use Rattle.clauses.specs.declared.ClauseSet.{ClauseSet}
 use Rattle.clauses.specs.declared.ClauseSet.TheVariants.{Minimal, Extended}
@@ -71,6 +72,14 @@ shape_in Minimal n h = go (dec_lt n 81) (dec_lt n 2997) (dec_lt n 5913) (dec_lt 
     go (no a) (no b) (yes c) d = rw (shape_F3 n (omega arith) c) tt
     go (no a) (no b) (no c) (yes d) = rw (shape_F4 n (omega arith) d) tt
     go (no a) (no b) (no c) (no d) = rw (shape_F5 n (omega arith) h) (box_pair_in ((n - 6642) / 27) ((n - 6642) % 27))
+
+-- so numbers and shapes belong together
+pub shape_numbers : (t : ClauseSet) → ShapeNumbers t
+shape_numbers t = record {
+  shape = λ n h. let b : n < size_of t = omega (arith, h, set_long t) in (shape_is n (omega (arith, sizes t)), shape_in t n b);
+  clause = λ n h. clause_at t n (omega (arith, h, set_long t));
+  number = λ x h i. let w = shape_number t x h i in (omega (arith, w.0, set_long t), w.1);
+}
 
 -- the clauses of a set are those of the shapes that it has
 pub member_iff : (t : ClauseSet) (c : Clause) → Memᴰ c (clauses_of t) ↔ ((s : Shape) × IsShape s × InSet t s × (clause_of s ≡ c))

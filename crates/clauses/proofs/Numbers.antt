@@ -1,16 +1,19 @@
--- The number ranges of the families, and the shape of every clause: two tests that are computed, the second over all 11,988 clauses.
+-- The numbers of the families, which are put together in the sets; and the shape of every clause: a test that is computed, over all 11,988 clauses.
 -- Assumes nothing.
 use mathlib.Core.Path.{◌≡◌, refl, ap, sym, ◌∙◌}
 use mathlib.Core.Bool.{Bool, true, false, ◌&&◌}
 use mathlib.Core.List.{List, [], ◌∷◌, ◌++◌}
-use Prim.Native.Nat.{ℕ, ◌+◌, ◌-◌, ◌<◌, ◌≤◌}
+use Prim.Native.Nat.{ℕ, suc, ◌+◌, ◌-◌, ◌<◌, ◌≤◌}
 use native.Mathlib.Omega.{arith}
 use lib.Dec.{T, ltb, eqb, ltb→lt, eqb→eq}
 use lib.IntN.{ℤ, pos, negsuc}
-use lib.ListN.{length, get_or, get_or-append}
+use lib.ListN.{length, get_or, get_or-append, take, drop}
+use lib.Seq.{get_or-append_right}
+use Rattle.std.proofs.lemmas.List.{append_assoc}
 use Rattle.grid.specs.House.{cell_of}
 use Rattle.grid.proofs.Table.{every, at, and_iff}
-use Rattle.clauses.specs.Clauses.{Clause, F1, F2, F3, F4, F5, F6, F7, F8, F9, families, minimal, extended, clauses_of}
+use Rattle.clauses.specs.Clauses.{Clause, over, F1, F2, F3, F4, F5, F6, F7, F8, F9, families, minimal, extended, clauses_of}
+use Rattle.clauses.specs.Numbers.{HasNumbers, FamilyNumbers}
 use Rattle.clauses.specs.Shape.{place_of, IsGroup, IsShape, clause_of, shape_of}
 use Rattle.clauses.specs.declared.ClauseSet.{ClauseSet}
 use Rattle.clauses.specs.declared.ClauseSet.TheVariants.{Minimal, Extended}
@@ -19,15 +22,23 @@ use Rattle.clauses.specs.declared.Group.TheVariants.{Cell, House}
 use Rattle.clauses.specs.declared.Shape.{Shape}
 use Rattle.clauses.specs.declared.Shape.TheVariants.{OneOf, NotBoth}
 
--- the first and the last number of each family
-abbrev pub numbers_from : ℕ → List (List Clause) → List (ℕ × ℕ)
-numbers_from n [] = []
-numbers_from n (f ∷ fs) = (n, n + length f - 1) ∷ numbers_from (n + length f) fs
+-- what is put together of two lists of families begins with what is put together of the first
+over_append : {A B : Type 0} (xs ys : List A) (f : A → List B) → over (xs ++ ys) f ≡ over xs f ++ over ys f
+over_append [] ys f = refl
+over_append (x ∷ xs) ys f = ap (λ l. f x ++ l) (over_append xs ys f) ∙ sym (append_assoc (f x) (over xs f) (over ys f))
 
-pub family_numbers : numbers_from 0 families
-    ≡ (0, 80) ∷ (81, 2996) ∷ (2997, 5912) ∷ (5913, 6641) ∷ (6642, 8828) ∷ (8829, 11744) ∷ (11745, 11825) ∷ (11826, 11906) ∷ (11907, 11987) ∷ []
-unfolding families F1 F2 F3 F4 F5 F6 F7 F8 F9
-family_numbers = refl
+-- families, one after the other
+abbrev joined : List (List Clause) → List Clause
+joined fs = over fs λ family. family
+
+-- the clauses of a family among others have the numbers from where those before it end
+family_at : (before : List (List Clause)) (family : List Clause) (after : List (List Clause)) (n : ℕ)
+    → length (joined before) ≤ n → n < length (joined before) + length family
+    → get_or (joined (before ++ (family ∷ after))) n [] ≡ get_or family (n - length (joined before)) []
+family_at before family after n a b =
+    ap (λ l. get_or l n []) (over_append before (family ∷ after) (λ f. f))
+    ∙ get_or-append_right (joined before) (family ++ joined after) n [] a
+    ∙ get_or-append family (joined after) [] (n - length (joined before)) (omega arith)
 
 -- tests of equality and of a shape
 abbrev same_literal : ℤ → ℤ → Bool
@@ -82,15 +93,15 @@ abbrev right : ℕ → Clause → Bool
 right n c = same_clause c (clause_of (shape_of n)) && is_shape (shape_of n)
 
 all_right : T (every right 0 extended)
-unfolding extended minimal F1 F2 F3 F4 F5 F6 F7 F8 F9 clause_of shape_of place_of cell_of
+unfolding extended families F1 F2 F3 F4 F5 F6 F7 F8 F9 clause_of shape_of place_of cell_of
 all_right = tt
 
 extended_long : length extended ≡ 11988
-unfolding extended minimal F1 F2 F3 F4 F5 F6 F7 F8 F9
+unfolding extended families F1 F2 F3 F4 F5 F6 F7 F8 F9
 extended_long = refl
 
 minimal_long : length minimal ≡ 8829
-unfolding minimal F1 F2 F3 F4 F5
+unfolding minimal families F1 F2 F3 F4 F5
 minimal_long = refl
 
 right_at : (n : ℕ) → n < 11988 → T (same_clause (get_or extended n []) (clause_of (shape_of n))) × T (is_shape (shape_of n))
@@ -117,8 +128,10 @@ sizes Extended = omega arith
 
 -- set 1 is where set 2 begins
 in_extended : (n : ℕ) → n < 8829 → get_or minimal n [] ≡ get_or extended n []
-unfolding extended
-in_extended n h = sym (get_or-append minimal (F6 ++ F7 ++ F8 ++ F9) [] n (omega (arith, minimal_long)))
+unfolding minimal extended families
+in_extended n h =
+    sym (get_or-append (joined (take 5 families)) (joined (drop 5 families)) [] n (omega (arith, h, minimal_long)))
+    ∙ ap (λ l. get_or l n []) (sym (over_append (take 5 families) (drop 5 families) (λ f. f)))
 
 extended_at : (n : ℕ) → n < 11988 → get_or extended n [] ≡ clause_of (shape_of n)
 extended_at n h = clause_eq (get_or extended n []) (clause_of (shape_of n)) (right_at n h).0
@@ -128,3 +141,41 @@ pub clause_at : (s : ClauseSet) (n : ℕ) → n < size_of s → get_or (clauses_
 unfolding clauses_of
 clause_at Extended n h = extended_at n h
 clause_at Minimal n h = in_extended n h ∙ extended_at n (omega arith)
+
+-- a family among those that a set is made of
+in_set : (s : ClauseSet) (before : List (List Clause)) (family : List Clause) (after : List (List Clause)) (first last : ℕ)
+    → clauses_of s ≡ joined (before ++ (family ∷ after)) → length (joined before) ≡ first → length family ≡ suc last - first → first ≤ last
+    → HasNumbers s family first last
+in_set s before family after first last made start many some = record {
+  many = many;
+  entries = λ n a b.
+      ap (λ l. get_or l n []) made
+      ∙ family_at before family after n (omega arith) (omega arith)
+      ∙ ap (λ k. get_or family (n - k) []) start;
+}
+
+-- the families of a set from F6 on
+abbrev late : ClauseSet → List (List Clause)
+late Minimal = []
+late Extended = F6 ∷ F7 ∷ F8 ∷ F9 ∷ []
+
+made_of : (s : ClauseSet) → clauses_of s ≡ joined (F1 ∷ F2 ∷ F3 ∷ F4 ∷ F5 ∷ late s)
+unfolding clauses_of minimal extended families
+made_of Minimal = refl
+made_of Extended = refl
+
+pub family_numbers : FamilyNumbers
+unfolding F1 F2 F3 F4 F5 F6 F7 F8 F9
+family_numbers = record {
+  cells = λ s. in_set s [] F1 (F2 ∷ F3 ∷ F4 ∷ F5 ∷ late s) 0 80 (made_of s) refl refl (omega arith);
+  column_pairs = λ s. in_set s (F1 ∷ []) F2 (F3 ∷ F4 ∷ F5 ∷ late s) 81 2996 (made_of s) refl refl (omega arith);
+  row_pairs = λ s. in_set s (F1 ∷ F2 ∷ []) F3 (F4 ∷ F5 ∷ late s) 2997 5912 (made_of s) refl refl (omega arith);
+  pairs_in_one_row_of_a_box = λ s. in_set s (F1 ∷ F2 ∷ F3 ∷ []) F4 (F5 ∷ late s) 5913 6641 (made_of s) refl refl (omega arith);
+  pairs_in_two_rows_of_a_box = λ s. in_set s (F1 ∷ F2 ∷ F3 ∷ F4 ∷ []) F5 (late s) 6642 8828 (made_of s) refl refl (omega arith);
+  cell_pairs = in_set Extended (F1 ∷ F2 ∷ F3 ∷ F4 ∷ F5 ∷ []) F6 (F7 ∷ F8 ∷ F9 ∷ []) 8829 11744 (made_of Extended) refl refl (omega arith);
+  columns = in_set Extended (F1 ∷ F2 ∷ F3 ∷ F4 ∷ F5 ∷ F6 ∷ []) F7 (F8 ∷ F9 ∷ []) 11745 11825 (made_of Extended) refl refl (omega arith);
+  rows = in_set Extended (F1 ∷ F2 ∷ F3 ∷ F4 ∷ F5 ∷ F6 ∷ F7 ∷ []) F8 (F9 ∷ []) 11826 11906 (made_of Extended) refl refl (omega arith);
+  boxes = in_set Extended (F1 ∷ F2 ∷ F3 ∷ F4 ∷ F5 ∷ F6 ∷ F7 ∷ F8 ∷ []) F9 [] 11907 11987 (made_of Extended) refl refl (omega arith);
+  last_of_set_1 = set_long Minimal;
+  last_of_set_2 = set_long Extended;
+}

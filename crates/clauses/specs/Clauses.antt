@@ -1,5 +1,5 @@
 -- Variables and the two clause sets, family by family F1 to F9, each in the order of its indices.
-use Rattle.std.specs.Prelude.{List, [], ◌∷◌, ◌++◌, map, ℕ, zero, suc, ◌+◌, ◌*◌, ◌-◌, ℤ, pos, negsuc}
+use Rattle.std.specs.Prelude.{List, [], ◌∷◌, ◌++◌, map, take, ℕ, zero, suc, ◌+◌, ◌*◌, ◌-◌, ℤ, pos, negsuc}
 use Rattle.clauses.specs.declared.ClauseSet.{ClauseSet}
 use Rattle.clauses.specs.declared.ClauseSet.TheVariants.{Minimal, Extended}
 
@@ -93,13 +93,13 @@ F9 = over nine λ z. over boxes λ a. over boxes λ b. clause (over three λ x. 
 unfoldable pub families : List (List Clause)
 families = F1 ∷ F2 ∷ F3 ∷ F4 ∷ F5 ∷ F6 ∷ F7 ∷ F8 ∷ F9 ∷ []
 
--- clause set 1
+-- clause set 1: the first five families, one after the other
 unfoldable pub minimal : List Clause
-minimal = F1 ++ F2 ++ F3 ++ F4 ++ F5
+minimal = over (take 5 families) λ family. family
 
--- clause set 2, which begins with clause set 1
+-- clause set 2: all nine, and so clause set 1 first
 unfoldable pub extended : List Clause
-extended = minimal ++ (F6 ++ F7 ++ F8 ++ F9)
+extended = over families λ family. family
 
 -- the clauses of a set; clause n is entry n, counted from 0
 unfoldable pub clauses_of : ClauseSet → List Clause

@@ -3,3 +3,4 @@ pub mod Clauses
 pub mod Call
 pub mod Models
 pub mod Shape
+pub mod Numbers

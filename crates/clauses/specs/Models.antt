@@ -59,3 +59,7 @@ pub record Precisely (s : ClauseSet) (g : List ℕ) : Type 0 where
   pub completions : (A : Truth) → Model s g A → Legal g (completion_of A)
   pub same_digits : (b : List ℕ) → Legal g b → completion_of (truth_of b) ≡ b
   pub same_truth : (A : Truth) → Model s g A → (v : ℕ) → 1 ≤ v → v ≤ 729 → truth_of (completion_of A) v ≡ A v
+
+-- so of either clause set and of every grid
+abbrev pub ModelsAreCompletions : Type 0
+ModelsAreCompletions = (s : ClauseSet) (g : List ℕ) → Precisely s g

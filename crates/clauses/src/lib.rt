@@ -6,14 +6,18 @@
 //     Shape         what a clause says of a group
 //     literal       literals as signed 16-bit numbers
 //     decode        a clause's group and places by arithmetic on its number
+//     theorems      what holds of the sets as a whole
 #![tactic(auto)]
 
 pub mod decode;
 pub mod literal;
+pub mod theorems;
 
-ghost use Rattle.std.specs.Prelude.{◌≡◌, length};
+ghost use Rattle.std.specs.Prelude.{◌≡◌, [], ◌∷◌, length, IfOk, OnErr};
+ghost use Rattle.std.specs.Result.{result_err};
+ghost use Rattle.grid.specs.Refusals.{first_broken};
 ghost use Rattle.clauses.specs.Clauses.{clauses_of};
-ghost use Rattle.clauses.specs.Call.{set_of, clause_given, clause_call};
+ghost use Rattle.clauses.specs.Call.{set_rule, set_of, clause_rules, clause_given, clause_call, GivesClause};
 
 use grid::Refusal;
 
@@ -44,7 +48,10 @@ impl TryFrom<u32> for ClauseSet {
 
     ghost try_from_gives = { λ number answer. answer ≡ set_of number };
 
-    fn try_from(number: u32) -> Result<Self, Refusal> {
+    fn try_from(number: u32) -> Result<Self, Refusal>
+        ensures exact { result ≡ set_of number }
+        ensures refused { result_err result ≡ first_broken (set_rule number ∷ []) }
+    {
         match number {
             1 => Ok(ClauseSet::Minimal),
             2 => Ok(ClauseSet::Extended),
@@ -78,10 +85,14 @@ fn clause_given(set: ClauseSet, n: usize, out: &mut [i16]) -> Result<usize, Refu
     Ok(decode::length_of(s))
 }
 
-// The clause call: the literals in index order, then zeros, and the clause's length, 2 or 9. Set and number come as numbers from hosts.
+/// A clause of set 1 or 2 by its number, counted from 0. Nine literals are lent: the clause's stand there in index order, then zeros. The answer is the
+/// clause's length, 2 or 9. Refused: 43 where the set is not 1 or 2, 44 where it has no clause of that number, 45 where not nine literals are lent.
 #[tactic(auto, unfolding(crate::specs::Call::clause_call))]
 pub fn clause(set: u32, number: u32, literals: &mut [i16]) -> Result<usize, Refusal>
-    ensures { (result, literals.new) ≡ clause_call set number literals.old }
+    ensures exact { (result, literals.new) ≡ clause_call set number literals.old }
+    ensures refused { result_err result ≡ first_broken (clause_rules set number literals.old) }
+    ensures err { OnErr result (literals.new ≡ literals.old) }
+    ensures ok { IfOk result (GivesClause set number literals.new) }
 {
     let named = ClauseSet::try_from(set)?;
     clause_given(named, number as usize, literals)

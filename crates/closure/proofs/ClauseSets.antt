@@ -19,7 +19,8 @@ use Rattle.clauses.specs.declared.Shape.{Shape}
 use Rattle.clauses.specs.declared.Shape.TheVariants.{OneOf, NotBoth}
 use Rattle.std.proofs.lemmas.List.FromFn.{get_or-map-range_with_len}
 use Rattle.clauses.proofs.Members.{over_iff, member_iff}
-use Rattle.closure.proofs.Clauses.{NoneTwice, WellMade, WellFormed}
+use Rattle.closure.specs.Laws.{NoneTwice}
+use Rattle.closure.proofs.Clauses.{WellMade, WellFormed}
 
 place_below : (g : Group) → IsGroup g → (k : ℕ) → k < 9 → place_of g k < 729
 unfolding place_of

@@ -1,18 +1,14 @@
 -- What the laws ask of a clause set. A clause with one literal twice would keep two literals that remain where the unit rule has one.
 -- Assumes nothing.
-use mathlib.Core.Path.{◌≡◌, sym}
+use mathlib.Core.Path.{sym}
 use mathlib.Core.List.{List, ◌∷◌, Memᴰ}
-use Prim.Native.Nat.{ℕ, suc, ◌<◌}
+use Prim.Native.Nat.{suc}
 use native.Mathlib.Omega.{arith}
 use lib.IntN.{ℤ, pos}
-use lib.ListN.{length, get_or}
 use Rattle.clauses.specs.Literal.{Literal}
 use Rattle.clauses.specs.Clauses.{Clause}
 use Rattle.clauses.proofs.Members.{place_of}
-
--- no literal stands at two places
-abbrev pub NoneTwice : List ℤ → Type 0
-NoneTwice ls = (i j : ℕ) → i < j → j < length ls → get_or ls i (pos 0) ≡ get_or ls j (pos 0) → ⊥
+use Rattle.closure.specs.Laws.{NoneTwice}
 
 -- the clause has some literal, only literals, and none twice
 pub record WellMade (c : Clause) : Type 0 where

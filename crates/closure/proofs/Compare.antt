@@ -21,7 +21,7 @@ module _ (R : LiteralSet → Type 0) (G : ℤ → Type 0) where
   pub end_within : (e : End) → EndOk R G e → Within (has (marks_of e)) (Least R G)
   end_within (solved m n) k = k.0.within
   end_within (opened m n) k = k.0.within
-  end_within (stopped m n) k = k
+  end_within (stopped m n) k = k.0
   end_within (contradiction n) k = λ l t. absurd (has_blank l t)
 
   -- an end that was not stopped is a contradiction exactly if the closure is one,

@@ -19,16 +19,17 @@ use Rattle.grid.specs.Counting.{tick}
 use Rattle.clauses.specs.Literal.{Literal}
 use Rattle.clauses.specs.Clauses.{Clause}
 use Rattle.clauses.proofs.Signed.{negation_literal}
-use Rattle.closure.specs.Sets.{LiteralSet, Holds, Within, Least, IsLeast}
+use Rattle.closure.specs.Sets.{Holds, Within, Least, IsLeast}
 use Rattle.closure.specs.Closure.{Contradiction, With, UnitClosed, Rules}
 use Rattle.closure.specs.Marks.{has, is_decided, put, mark, decided_in, decided, blank, IsMarks}
 use Rattle.closure.specs.Propagation.{Answer, clash, closed, bind, remaining, sweep, sweeps, unit_closure, join, Closes}
-use Rattle.closure.specs.Job.{is_full, End, Step, skip, halt, kept, broken, refuted, try, step_of, step}
-use Rattle.closure.specs.Job.{Walk, walked, ended, unless_full, after, next_pass, walk, passes, from_closure, start, job_end, EndOk, count_of, marks_of, outcome_of}
+use Rattle.closure.specs.Job.{is_full, Step, skip, halt, kept, broken, refuted, try, step_of, step}
+use Rattle.closure.specs.Job.{Walk, walked, ended, unless_full, after, next_pass, walk, passes, from_closure, start, job_end}
 use Rattle.closure.proofs.Sets.{least_within, least_mono}
 use Rattle.closure.proofs.Closure.{contradiction_mono, rules_unit, TrialAt, trial_decided}
 use Rattle.closure.proofs.Marks.{has_consistent, has_mark, or_iff, decided_rises, decided_grows, decided_bounded, decided_total, is_marks_blank, is_marks_mark}
-use Rattle.closure.proofs.Clauses.{NoneTwice, WellFormed}
+use Rattle.closure.specs.Laws.{NoneTwice, JobOk}
+use Rattle.closure.proofs.Clauses.{WellFormed}
 use Rattle.closure.proofs.Trials.{passing, is_open, open_most, open_falls, spends, step_spends}
 use Rattle.closure.proofs.Propagation.{InMarks, unit_closure_ok, unit_closure_marks, closes_same, no_clash, givens_closed}
 
@@ -39,13 +40,6 @@ failing = (pos 1 ∷ pos 2 ∷ []) ∷ (pos 1 ∷ negsuc 1 ∷ []) ∷ []
 steps : (step failing 9 [] 0 (negsuc 0) ≡ refuted (1 ∷ [])) × (step failing 9 [] 0 (pos 1) ≡ kept)
 unfolding failing step unit_closure sweeps sweep remaining has mark put decided_in
 steps = (refl, refl)
-
--- what a job promises of its end: its meaning, at most so many trials, no stop by a ceiling from there on, and marks
-pub record JobOk (R : LiteralSet → Type 0) (G : ℤ → Type 0) (ceiling bound : ℕ) (e : End) : Type 0 where
-  pub end : EndOk R G e
-  pub count : count_of e ≤ bound
-  pub whole : bound ≤ ceiling → outcome_of e ≡ 3 → ⊥
-  pub marks : IsMarks (marks_of e)
 
 -- what holds of the state all along a job with trials
 pub record Sound (cs : List Clause) (G : ℤ → Type 0) (m : List ℕ) : Type 0 where
@@ -169,7 +163,7 @@ module _ (cs : List Clause) (wf : WellFormed cs) (G : ℤ → Type 0) (ceiling :
       go kept k h r = r m (n + 1) f (stay (n + 1) (omega arith) k)
       go halt k h r =
           let more = room (n + 1) (omega arith) in
-          record { end = o.sound.within; count = omega arith; whole = λ b q. omega (arith, k); marks = o.sound.marks }
+          record { end = (o.sound.within, o.part); count = omega arith; whole = λ b q. omega (arith, k); marks = o.sound.marks }
       go broken k h r = record { end = k; count = omega (arith, room (n + 1) (omega arith)); whole = λ b q. omega arith; marks = is_marks_blank }
       go (refuted t) k h r =
           full_cases (λ b. WalkOk cs G ceiling s bound (unless_full b t (n + 1) (walk cs ceiling ls))) t

@@ -11,3 +11,4 @@ pub mod Order
 pub mod Compare
 pub mod Solved
 pub mod ClauseSets
+pub mod Laws

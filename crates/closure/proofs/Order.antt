@@ -14,7 +14,7 @@ use Rattle.grid.specs.Counting.{tally}
 use Rattle.grid.proofs.Counting.{tally_some, tally_find, tally_most, square_columns}
 use Rattle.clauses.specs.Literal.{Literal}
 use Rattle.clauses.proofs.Members.{member_at}
-use Rattle.closure.proofs.Clauses.{NoneTwice}
+use Rattle.closure.specs.Laws.{NoneTwice}
 
 -- the literals numbered: +1, -1, +2, -2 and so on
 abbrev number : ℤ → ℕ

@@ -23,7 +23,8 @@ use Rattle.closure.proofs.Sets.{least_given, least_mono, least_iff}
 use Rattle.closure.proofs.Closure.{contradiction_mono, contradiction_in, both_signs}
 use Rattle.closure.proofs.Marks.{has_single, has_consistent, has_mark, has_blank, decided_rises, decided_same, decided_bounded}
 use Rattle.closure.proofs.Marks.{is_marks_blank, is_marks_mark, marks_ext}
-use Rattle.closure.proofs.Clauses.{NoneTwice, WellFormed, once_head, once_tail}
+use Rattle.closure.specs.Laws.{NoneTwice}
+use Rattle.closure.proofs.Clauses.{WellFormed, once_head, once_tail}
 
 -- Cases that are computed, −v written `negsuc (v - 1)`: from +1 follow +2 and +3, although the clauses stand the other way round; a clause
 -- whose literals are all false is a contradiction,

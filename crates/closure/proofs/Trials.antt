@@ -18,7 +18,8 @@ use Rattle.closure.specs.Propagation.{unit_closure}
 use Rattle.closure.specs.Job.{Step, skip, halt, kept, broken, refuted, try, step_of, step}
 use Rattle.closure.proofs.Tally.{tick_compare, tally_compare, tally_less, tally_apart}
 use Rattle.closure.proofs.Marks.{decided_at, decided_tally, or_iff, place_iff}
-use Rattle.closure.proofs.Clauses.{NoneTwice, once_head, once_tail}
+use Rattle.closure.specs.Laws.{NoneTwice}
+use Rattle.closure.proofs.Clauses.{once_head, once_tail}
 
 -- how many entries of a list pass a test
 unfoldable pub passing : (ℤ → Bool) → List ℤ → ℕ

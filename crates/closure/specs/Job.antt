@@ -1,10 +1,12 @@
 -- The steps of a job, in their order: the unit closure of the givens, then trials along the order in passes, under a ceiling.
-use Rattle.std.specs.Prelude.{◌≡◌, Bool, true, false, List, [], ◌∷◌, ℕ, zero, suc, ◌+◌, ◌<◌, eqb, ℤ, neg_ℤ}
+use Rattle.std.specs.Prelude.{◌≡◌, Bool, true, false, List, [], ◌∷◌, ℕ, zero, suc, ◌+◌, ◌*◌, ◌<◌, eqb, ℤ, neg_ℤ}
 use Rattle.clauses.specs.Clauses.{Clause}
 use Rattle.closure.specs.Sets.{LiteralSet, Within, Least, IsLeast}
-use Rattle.closure.specs.Closure.{Contradiction}
+use Rattle.closure.specs.Closure as closure
 use Rattle.closure.specs.Marks.{has, is_decided, mark, decided, blank}
 use Rattle.closure.specs.Propagation.{Answer, clash, closed, bind, unit_closure, join}
+use Rattle.closure.specs.declared.Outcome.{Outcome}
+use Rattle.closure.specs.declared.Outcome.TheVariants.{Solved, Open, Stopped, Contradiction}
 
 -- all 729 variables are decided
 abbrev pub is_full : List ℕ → Bool
@@ -93,12 +95,16 @@ module _ (cs : List Clause) (ceiling : ℕ) where
   job_end t order givens = start t order (bind (join blank givens) (unit_closure cs))
 
 -- What a job's end says of the closure of its givens G under its rules R: solved and open have marked just the closure; stopped has
--- marked a part of it; and a contradiction is one of the closure.
+-- marked a part of it, and leaves some variable undecided; and a contradiction is one of the closure.
 abbrev pub EndOk : (LiteralSet → Type 0) → (ℤ → Type 0) → End → Type 0
 EndOk R G (solved m n) = IsLeast R G (has m) × (decided m ≡ 729)
 EndOk R G (opened m n) = IsLeast R G (has m) × (decided m < 729)
-EndOk R G (stopped m n) = Within (has m) (Least R G)
-EndOk R G (contradiction n) = Contradiction (Least R G)
+EndOk R G (stopped m n) = Within (has m) (Least R G) × (decided m < 729)
+EndOk R G (contradiction n) = closure.Contradiction (Least R G)
+
+-- the most trials that any job makes: 729 passes over 1,458 literals
+abbrev pub most_trials : ℕ
+most_trials = 729 * 1458
 
 -- the count of a job
 abbrev pub count_of : End → ℕ
@@ -114,9 +120,20 @@ marks_of (opened m n) = m
 marks_of (stopped m n) = m
 marks_of (contradiction n) = blank
 
--- the outcome's number: 1 solved, 2 open, 3 stopped, 4 contradiction
+-- the outcome of a job
+abbrev pub outcome : End → Outcome
+outcome (solved m n) = Solved
+outcome (opened m n) = Open
+outcome (stopped m n) = Stopped
+outcome (contradiction n) = Contradiction
+
+-- the number of an outcome
+abbrev pub outcome_number : Outcome → ℕ
+outcome_number Solved = 1
+outcome_number Open = 2
+outcome_number Stopped = 3
+outcome_number Contradiction = 4
+
+-- the number of a job's outcome
 abbrev pub outcome_of : End → ℕ
-outcome_of (solved m n) = 1
-outcome_of (opened m n) = 2
-outcome_of (stopped m n) = 3
-outcome_of (contradiction n) = 4
+outcome_of e = outcome_number (outcome e)

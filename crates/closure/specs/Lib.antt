@@ -3,3 +3,4 @@ pub mod Closure
 pub mod Marks
 pub mod Propagation
 pub mod Job
+pub mod Laws

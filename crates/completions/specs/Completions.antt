@@ -2,7 +2,7 @@
 use Rattle.std.specs.Prelude.{◌≡◌, ◌↔◌, Bool, true, false, ℕ, zero, suc, ◌<◌}
 use mathlib.Core.List.{List, [], ◌∷◌, map, Memᴰ}
 use Rattle.grid.specs.Grid.{byte}
-use Rattle.grid.specs.Completion.{is_legal}
+use Rattle.grid.specs.Completion.{Legal, is_legal}
 use Rattle.clauses.specs.Clauses.{range, over}
 
 -- x before the others, where it is kept
@@ -34,6 +34,10 @@ Rising [] = Unit {0}
 Rising (x ∷ xs) = ((y : List ℕ) → Memᴰ y xs → Before x y) × Rising xs
 
 -- the list has just what P holds of, in byte order, and none twice
-pub record InOrder (P : List ℕ → Type 0) (bs : List (List ℕ)) : Type 0 where
-  pub rising : Rising bs
-  pub members : (b : List ℕ) → Memᴰ b bs ↔ P b
+pub record InOrder (P : List ℕ → Type 0) (entries : List (List ℕ)) : Type 0 where
+  pub rising : Rising entries
+  pub members : (b : List ℕ) → Memᴰ b entries ↔ P b
+
+-- the completions of every grid are just its legal completions, in byte order, and none twice
+abbrev pub CompletionsInOrder : Type 0
+CompletionsInOrder = (grid : List ℕ) → InOrder (Legal grid) (completions grid)

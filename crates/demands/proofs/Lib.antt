@@ -1,14 +1,3 @@
-pub mod Checks
-pub mod Ends
-pub mod MarkBytes
-pub mod JobCalls
-pub mod Batches
-pub mod Jobs
 pub mod JobsCompared
-pub mod GradeCalls
-pub mod Reports
-pub mod WriteNothing
-pub mod SameGrid
 pub mod GradingsCompared
-pub mod DemandThree
-pub mod NeverStopped
+pub mod SameGrid

@@ -1,8 +1,2 @@
-pub mod Jobs
-pub mod Batches
-pub mod WriteNothing
-pub mod Searches
+pub mod Comparison
 pub mod SameGrid
-pub mod Gradings
-pub mod DemandThree
-pub mod NeverStopped

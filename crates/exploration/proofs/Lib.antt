@@ -2,3 +2,4 @@ pub mod Finding
 mod Marked
 mod Full
 mod Branches
+pub mod Reports

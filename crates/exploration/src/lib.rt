@@ -10,7 +10,8 @@ ghost use Rattle.clauses.specs.declared.ClauseSet.TheVariants.{Extended};
 ghost use Rattle.propagation.specs.Steps.{Closed};
 ghost use Rattle.completions.specs.Completions.{completions};
 ghost use Rattle.completions.specs.Left.{left};
-ghost use Rattle.exploration.specs.Search.{found_of, count_of, is_open, FirstOpen, digit_in, digits_in};
+ghost use Rattle.exploration.specs.Reports.{Reports};
+ghost use Rattle.exploration.specs.Search.{found_of, count_of, first_of, second_of, is_open, FirstOpen, digit_in, digits_in};
 
 use branching::Test;
 use clauses::ClauseSet;
@@ -149,9 +150,9 @@ impl Search {
     }
 }
 
-// The completions of a grid.
+// The search, from what the givens leave.
 #[tactic(auto, using(completions::proofs::Left::start_none, completions::proofs::Left::start_left), unfolding(crate::specs::Search::found_of))]
-pub fn find(grid: &[u8; 81]) -> Found
+fn completions_found(grid: &[u8; 81]) -> Found
     ensures { result ≡ found_of (completions grid.now) }
 {
     let mut search = Search::new();
@@ -162,4 +163,12 @@ pub fn find(grid: &[u8; 81]) -> Found
         return Found::Nothing;
     }
     search.explore(&state)
+}
+
+/// The legal completions of a grid, as far as the smallest two.
+pub fn find(grid: &[u8; 81]) -> Found
+    ensures exact { result ≡ found_of (completions grid.now) }
+    ensures reports { Reports grid.now (count_of result) (first_of result) (second_of result) }
+{
+    completions_found(grid)
 }

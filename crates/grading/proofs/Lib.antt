@@ -1,1 +1,3 @@
 pub mod Grading
+pub mod Says
+pub mod Calls

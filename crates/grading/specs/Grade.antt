@@ -1,11 +1,11 @@
 -- Grading: the weakest technique that finishes a grid with one completion, under one ceiling for all trials.
-use Rattle.std.specs.Prelude.{◌≡◌, cond, List, [], ◌∷◌, ℕ, suc, ◌+◌, ◌-◌, ◌<◌, eqb, ℤ, length, get_or, Result, Ok, Err}
-use Rattle.grid.specs.Refusals.{on_accepted, grid_check}
+use Rattle.std.specs.Prelude.{◌≡◌, ◌==◌, cond, List, [], ◌∷◌, ◌++◌, ℕ, suc, ◌+◌, ◌-◌, ◌<◌, eqb, ℤ, length, get_or, Option, Result, Ok, Err}
+use Rattle.grid.specs.Refusals.{rule, on_accepted, grid_rules, grid_check}
 use Rattle.grid.specs.declared.Refusal.{Refusal}
 use Rattle.grid.specs.declared.Refusal.TheVariants.{BufferLength}
 use Rattle.clauses.specs.Models.{truth_of}
 use Rattle.closure.specs.Job.{End, solved, opened, stopped, contradiction}
-use Rattle.orders.specs.Order.{order_check}
+use Rattle.orders.specs.Order.{order_rules, order_check}
 use Rattle.orders.specs.Technique as technique
 use Rattle.orders.specs.Technique.{unit_minimal, unit_extended, trials_minimal, trials_extended}
 use Rattle.orders.specs.declared.technique.Technique.{Technique}
@@ -67,6 +67,10 @@ grade_of g o ceiling = grade_by (completions g) λ u. rate_from g o ceiling ladd
 -- a refusal changes nothing
 abbrev pub refused : List ℕ → Refusal → Given
 refused b r = (Err r, b)
+
+-- the rules of a grading call: 42, that the buffer is 81 long; then those of the grid and of the order
+unfoldable pub grade_rules : List ℕ → List ℤ → List ℕ → List (Option Refusal)
+grade_rules g o b = rule (length b == 81) BufferLength ∷ (grid_rules g ++ order_rules o)
 
 -- 42: a buffer that is not 81 long; then the keyer's check, and the operator's check of the order
 unfoldable pub grade_call : List ℕ → List ℤ → ℕ → List ℕ → Given

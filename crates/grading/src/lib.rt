@@ -5,17 +5,20 @@
 //     Verdict    how a grading ends, and with how many trials, a Rating
 #![tactic(auto)]
 
-ghost use Rattle.std.specs.Prelude.{◌≡◌, cond, suc, ◌<◌, Ok};
+ghost use Rattle.std.specs.Prelude.{◌≡◌, cond, suc, ◌<◌, Ok, OnErr, IfOk};
+ghost use Rattle.std.specs.Result.{result_err};
+ghost use Rattle.grid.specs.Refusals.{first_broken};
 ghost use Rattle.clauses.specs.Models.{truth_of};
 ghost use Rattle.trials.specs.Known.{CompletionOk};
-ghost use Rattle.grading.specs.Grade.{number_of, ladder, rate_from, MarksOf, grade_of, grade_call};
+ghost use Rattle.grading.specs.Grade.{number_of, ladder, rate_from, MarksOf, grade_of, grade_rules, grade_call};
+ghost use Rattle.grading.specs.Says.{GradingSays};
 
+use closure::Outcome;
 use exploration::{Found, find};
 use grid::{Refusal, keyed};
 use inference::job::run_with;
 use orders::order::Order;
 use orders::technique::Technique;
-use trials::trial::Outcome;
 
 // How a grading ends: the grid has no legal completion, or several; the weakest technique that finishes it; none does; or the ceiling stops
 // one.
@@ -130,7 +133,23 @@ fn rate(grid: &[u8; 81], order: &Order, ceiling: u32, completion: &mut [u8; 81])
     Rating { verdict, trials: 0 }
 }
 
-// The grading call.
+// The grading call, where 81 bytes are lent.
+#[tactic(auto, unfolding(crate::specs::Grade::grade_call))]
+fn checked_grade(
+    grid: &[u8],
+    order: &[i16],
+    ceiling: u32,
+    completion: &mut [u8; 81],
+) -> Result<Rating, Refusal>
+    ensures { (result, completion.new) ≡ grade_call grid.now order.now ceiling completion.old }
+{
+    let keyed_grid = keyed(grid)?;
+    let checked = Order::checked(order)?;
+    Ok(rate(keyed_grid, &checked, ceiling, completion))
+}
+
+/// The grading call, which is lent an order of 1,458 literals and 81 bytes for the completion. It refuses with 42, 11, 12, 22, 23 and 24, tested in this
+/// order.
 #[tactic(auto, unfolding(crate::specs::Grade::grade_call))]
 pub fn grade(
     grid: &[u8],
@@ -138,12 +157,14 @@ pub fn grade(
     ceiling: u32,
     completion: &mut [u8],
 ) -> Result<Rating, Refusal>
-    ensures { (result, completion.new) ≡ grade_call grid.now order.now ceiling completion.old }
+    ensures exact { (result, completion.new) ≡ grade_call grid.now order.now ceiling completion.old }
+    ensures refused { result_err result ≡ first_broken (grade_rules grid.now order.now completion.old) }
+    ensures err { OnErr result (completion.new ≡ completion.old) }
+    ensures ok { IfOk result (λ rating. GradingSays grid.now order.now ceiling
+        (number_of rating.verdict) rating.trials completion.new) }
 {
     let Some(completion) = completion.as_mut_array() else {
         return Err(Refusal::BufferLength);
     };
-    let keyed_grid = keyed(grid)?;
-    let checked = Order::checked(order)?;
-    Ok(rate(keyed_grid, &checked, ceiling, completion))
+    checked_grade(grid, order, ceiling, completion)
 }

@@ -21,6 +21,13 @@ pub not_both : {A : Type 0} (r : Result A Refusal) → IsErr r → IsOk r → �
 not_both (Ok a) e o = let z : false ≡ true = e in cc
 not_both (Err f) e o = let z : false ≡ true = o in cc
 
+-- nor is an answer a refusal, and answers that are the same say the same
+pub no_answer : {A P : Type 0} {f : Refusal} {a : A} → ◌≡◌ {A = Result A Refusal} (Err f) (Ok a) → P
+no_answer e = absurd (let z : ◌≡◌ {A = ℕ} 0 1 = cc in omega arith)
+
+pub same_answer : {A : Type 0} {a b : A} → ◌≡◌ {A = Result A Refusal} (Ok a) (Ok b) → a ≡ b
+same_answer e = cc
+
 -- rules of which none is broken are passed over,
 broken_after : (xs ys : List (Option Refusal)) → first_broken xs ≡ None → first_broken (xs ++ ys) ≡ first_broken ys
 broken_after [] ys e = refl
@@ -60,6 +67,12 @@ module _ {G : Type 0} (refused : Refusal → G) where
         → ((a : A) → x ≡ Ok a → told (k a) ≡ first_broken ys) → told (on_accepted x refused k) ≡ first_broken (xs ++ ys)
     checked_first (Ok a) k xs ys e next = next a refl ∙ sym (broken_after xs ys (sym e))
     checked_first (Err f) k xs ys e next = tells f ∙ sym (broken_before xs ys f (sym e))
+
+    -- where it is the last, those are all
+    pub last_first : {A : Type 0} (x : Result A Refusal) (k : A → G) (xs : List (Option Refusal)) → result_err x ≡ first_broken xs
+        → ((a : A) → x ≡ Ok a → told (k a) ≡ None) → told (on_accepted x refused k) ≡ first_broken xs
+    last_first (Ok a) k xs e next = next a refl ∙ e
+    last_first (Err f) k xs e next = tells f ∙ e
 
 -- the keyer's checks
 pub bytes_broken : (bytes : List ℕ) → result_err (bytes_check bytes) ≡ bytes_rule bytes

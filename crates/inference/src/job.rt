@@ -1,14 +1,19 @@
 // The job call: the unit closure of a grid's givens, then trials, after the checks of what is lent.
-ghost use Rattle.std.specs.Prelude.{◌≡◌, Ok};
+ghost use Rattle.std.specs.Prelude.{◌≡◌, Ok, OnErr, IfOk};
+ghost use Rattle.std.specs.Result.{result_err};
+ghost use Rattle.grid.specs.Refusals.{first_broken};
+ghost use Rattle.closure.specs.Job.{outcome_number};
 ghost use Rattle.trials.specs.Known.{CompletionOk};
 ghost use Rattle.trials.specs.Steps.{end, end_of};
-ghost use Rattle.inference.specs.Call.{finished, job_end_of, job_call};
+ghost use Rattle.inference.specs.Call.{finished, job_end_of, job_rules, job_call};
+ghost use Rattle.inference.specs.Job.{JobSays, OfTechnique};
 
+use closure::Outcome;
 use grid::{Refusal, keyed};
 use orders::order::Order;
 use orders::technique::Technique;
 use propagation::close::close_givens;
-use trials::trial::{End, Job, Outcome};
+use trials::trial::{End, Job};
 use worklist::acting::Worklist;
 
 // The end of a job, and the marks of its state, which after a contradiction mean nothing.
@@ -82,8 +87,27 @@ pub fn finish(ended: Ended, marks: &mut [u8; 729]) -> End
     ended.end
 }
 
-// The job call. The technique comes as a number from hosts.
+// The job call, where 729 marks are lent.
 #[tactic(auto, unfolding(crate::specs::Call::job_call, crate::specs::Call::job_of))]
+fn checked_job(
+    grid: &[u8],
+    technique: u32,
+    order: &[i16],
+    ceiling: u32,
+    marks: &mut [u8; 729],
+) -> Result<End, Refusal>
+    ensures { (result, marks.new) ≡ job_call grid.now technique order.now ceiling marks.old }
+{
+    let keyed_grid = keyed(grid)?;
+    let known = Technique::try_from(technique)?;
+    let checked = Order::checked(order)?;
+    let ended = run(known, keyed_grid, &checked, ceiling);
+    Ok(finish(ended, marks))
+}
+
+/// The job call, which is lent 729 marks and an order of 1,458 literals; the technique comes as its number. It refuses with 41, 11, 12, 21, 22, 23 and 24,
+/// tested in this order.
+#[tactic(auto, unfolding(crate::specs::Call::job_call))]
 pub fn job(
     grid: &[u8],
     technique: u32,
@@ -91,14 +115,14 @@ pub fn job(
     ceiling: u32,
     marks: &mut [u8],
 ) -> Result<End, Refusal>
-    ensures { (result, marks.new) ≡ job_call grid.now technique order.now ceiling marks.old }
+    ensures exact { (result, marks.new) ≡ job_call grid.now technique order.now ceiling marks.old }
+    ensures refused { result_err result ≡ first_broken (job_rules grid.now technique order.now marks.old) }
+    ensures err { OnErr result (marks.new ≡ marks.old) }
+    ensures ok { IfOk result (λ end. OfTechnique technique (λ t.
+        JobSays t grid.now order.now ceiling (outcome_number end.outcome) end.count marks.new)) }
 {
     let Some(marks) = marks.as_mut_array() else {
         return Err(Refusal::MarksLength);
     };
-    let keyed_grid = keyed(grid)?;
-    let known = Technique::try_from(technique)?;
-    let checked = Order::checked(order)?;
-    let ended = run(known, keyed_grid, &checked, ceiling);
-    Ok(finish(ended, marks))
+    checked_job(grid, technique, order, ceiling, marks)
 }

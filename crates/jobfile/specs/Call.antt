@@ -1,11 +1,12 @@
 -- The reading call: its answer, and what it leaves in the lent grid and in the lent order.
-use Rattle.std.specs.Prelude.{cond, List, ℕ, eqb, ℤ, length, Result, Ok, Err}
-use Rattle.grid.specs.Refusals.{on_accepted, grid_check}
+use Rattle.std.specs.Prelude.{◌≡◌, cond, List, [], ◌∷◌, ℕ, eqb, ◌==◌, ℤ, length, Option, Some, Result, Ok, Err}
+use Rattle.grid.specs.Refusals.{rule, on_accepted, bytes_rule, IsGrid, grid_check}
 use Rattle.grid.specs.declared.Refusal.{Refusal}
 use Rattle.grid.specs.declared.Refusal.TheVariants.{BufferLength, OrderBuffer}
-use Rattle.orders.specs.Order.{order_check}
-use Rattle.orders.specs.Technique.{technique_of}
+use Rattle.orders.specs.Order.{order_rules, order_check, EachOnce}
+use Rattle.orders.specs.Technique.{number_of, technique_rule, technique_of}
 use Rattle.orders.specs.declared.technique.Technique.{Technique}
+use Rattle.pieces.specs.Format.{Spells}
 use Rattle.pieces.specs.Pieces.{pieces_of}
 use Rattle.pieces.specs.declared.piece.Bodies.{Bodies}
 use Rattle.jobfile.specs.Contents.{ceiling_in, order_in}
@@ -19,6 +20,32 @@ lent_check grid order = cond (eqb grid 81) (cond (eqb order 1458) (Ok tt) (Err O
 unfoldable pub contents_check : List ℕ → ℕ → List ℤ → Result Technique Refusal
 contents_check grid technique order =
     on_accepted (grid_check grid) Err λ u. on_accepted (technique_of technique) Err λ t. on_accepted (order_check order) Err λ v. Ok t
+
+-- the rules of what bodies say: 12, that each byte of the grid has a meaning; 21, that the technique's number is 1 to 4; 23 and 24, those of the order,
+-- which has its 1,458 entries
+abbrev pub contents_rules : Bodies → List (Option Refusal)
+contents_rules bodies = bytes_rule bodies.grid ∷ technique_rule bodies.technique ∷ order_rules (order_in bodies.order)
+
+-- the rules of a file: 31 to 34, the fault of its pieces, if they have one; else those of what its bodies say
+abbrev pub file_rules : Result Bodies Refusal → List (Option Refusal)
+file_rules (Err fault) = Some fault ∷ []
+file_rules (Ok bodies) = contents_rules bodies
+
+-- the rules of a reading call: 42, that 81 bytes are lent for the grid; 46, that 1,458 literals are lent for the order; then those of the file
+unfoldable pub read_rules : List ℕ → List ℕ → List ℤ → List (Option Refusal)
+read_rules file grid order = rule (length grid == 81) BufferLength ∷ rule (length order == 1458) OrderBuffer ∷ file_rules (pieces_of file)
+
+-- what a file sets that is read: it spells some bodies, and from them come the grid as it is in the file, the technique by its number, the ceiling, 1,062,882
+-- where none is named, and the order, +1, −1 to −729 where none is named. A grid that is set is one, and an order has each literal once.
+pub record Sets (file : List ℕ) (settings : Settings) (grid : List ℕ) (order : List ℤ) : Type 0 where
+  pub bodies : Bodies
+  pub spelled : Spells file bodies
+  pub grid_is : grid ≡ bodies.grid
+  pub technique_is : number_of settings.technique ≡ bodies.technique
+  pub ceiling_is : settings.ceiling ≡ ceiling_in bodies.ceiling
+  pub order_is : order ≡ order_in bodies.order
+  pub keyed : IsGrid grid
+  pub each_once : EachOnce order
 
 -- what a reading call gives back: its answer, and the lent grid and the lent order at its return
 abbrev pub Given : Type 0

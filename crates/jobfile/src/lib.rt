@@ -4,9 +4,11 @@
 //     Settings     what it answers
 #![tactic(auto)]
 
-ghost use Rattle.std.specs.Prelude.{◌≡◌};
+ghost use Rattle.std.specs.Prelude.{◌≡◌, IfOk, OnErr};
+ghost use Rattle.std.specs.Result.{result_err};
+ghost use Rattle.grid.specs.Refusals.{first_broken};
 ghost use Rattle.jobfile.specs.Contents.{entries_in, order_in};
-ghost use Rattle.jobfile.specs.Call.{contents_check, read_bodies, read_call};
+ghost use Rattle.jobfile.specs.Call.{contents_check, read_rules, Sets, read_bodies, read_call};
 
 use grid::{Refusal, check_grid};
 use orders::order::{DEFAULT_CEILING, ENTRIES, check_order, default_order};
@@ -74,12 +76,26 @@ fn read_bodies(
     })
 }
 
-// The reading call. Refusals: 42 not 81 bytes lent for the grid; 46 not 1,458 literals for the order; 31 to 34 by the pieces; 12 by the grid;
-// 21 no such technique; 23 and 24 by the order.
+// The reading of a file into what is lent in its full length.
+#[tactic(auto, unfolding(crate::specs::Call::lent_check, crate::specs::Call::read_call))]
+fn read_file(
+    file: &[u8],
+    grid: &mut [u8; 81],
+    order: &mut [i16; ENTRIES],
+) -> Result<Settings, Refusal>
+    ensures { (result, grid.new, order.new) ≡ read_call file.now grid.old order.old }
+{
+    read_bodies(&read_pieces(file)?, grid, order)
+}
+
+/// The reading call, which is lent 81 bytes for the grid and 1,458 literals for the order, and answers technique and ceiling. It refuses with 42 and 46 for what
+/// is lent; 31, 32 and 33 piece by piece and 34 at the end; 12, 21, 23 and 24 for what the file says; tested in this order.
 #[tactic(auto, unfolding(crate::specs::Call::lent_check, crate::specs::Call::read_call))]
 pub fn read(file: &[u8], grid: &mut [u8], order: &mut [i16]) -> Result<Settings, Refusal>
-    ensures { (result, grid.new, order.new)
-        ≡ read_call file.now grid.old order.old }
+    ensures exact { (result, grid.new, order.new) ≡ read_call file.now grid.old order.old }
+    ensures refused { result_err result ≡ first_broken (read_rules file.now grid.old order.old) }
+    ensures err { OnErr result ((grid.new ≡ grid.old) × (order.new ≡ order.old)) }
+    ensures ok { IfOk result (λ settings. Sets file.now settings grid.new order.new) }
 {
     let Some(grid) = grid.as_mut_array() else {
         return Err(Refusal::BufferLength);
@@ -87,5 +103,5 @@ pub fn read(file: &[u8], grid: &mut [u8], order: &mut [i16]) -> Result<Settings,
     let Some(order) = order.as_mut_array() else {
         return Err(Refusal::OrderBuffer);
     };
-    read_bodies(&read_pieces(file)?, grid, order)
+    read_file(file, grid, order)
 }

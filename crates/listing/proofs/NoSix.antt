@@ -15,15 +15,15 @@ use Rattle.grading.specs.Grade.{number_of, rating, Given, grade_call}
 use Rattle.grading.specs.declared.Rating.{Rating}
 use Rattle.grading.specs.declared.Verdict.{Verdict}
 use Rattle.grading.specs.declared.Verdict.TheVariants.{NoCompletion, Finished, Unfinished, Stopped, SeveralCompletions}
-use Rattle.demands.proofs.GradingsCompared.{number_low}
-use Rattle.demands.proofs.NeverStopped.{six_is_stopped, never_six}
+use Rattle.grading.proofs.Says.{number_range, Answers}
+use Rattle.grading.proofs.Calls.{grade_answers}
 use Rattle.listing.specs.Listing.{field, shown, listed, NoSix}
 use Rattle.listing.proofs.Decimal.{decimal_digit}
 
 -- a verdict has one digit
 one_digit : (v : Verdict) → number_of v ≤ 7
 one_digit NoCompletion = omega arith
-one_digit (Finished t) = omega (arith, number_low t)
+one_digit (Finished t) = omega (arith, number_range t)
 one_digit Unfinished = omega arith
 one_digit Stopped = omega arith
 one_digit SeveralCompletions = omega arith
@@ -44,13 +44,11 @@ same_byte before bs cs b c e = ap (λ l. get_or l 0 0) (append_cancel_left befor
 
 pub no_six : NoSix
 unfolding listed
-no_six n line trials = go (grade_call line default_order default_ceiling zeros) refl
+no_six n line trials = go (grade_call line default_order default_ceiling zeros) refl (grade_answers line default_order default_ceiling zeros)
   where
     byte_is : (s bs : List ℕ) (b : ℕ) → s ≡ field n 32 ++ (b ∷ bs) → s ≡ shown n (Ok (rating Stopped trials)) → b ≡ 54
     byte_is s bs b p e = same_byte (field n 32) bs (32 ∷ field trials 10) b 54 (sym p ∙ e ∙ shown_rating n (rating Stopped trials))
 
-    go : (x : Given) → grade_call line default_order default_ceiling zeros ≡ x → shown n x.0 ≡ shown n (Ok (rating Stopped trials)) → ⊥
-    go (Err r, a) q e = absurd (omega (arith, byte_is _ _ _ (shown_refusal n r) e))
-    go (Ok r, a) q e =
-        let six : r.verdict ≡ Stopped = (six_is_stopped r.verdict).0 (omega (arith, byte_is _ _ _ (shown_rating n r) e)) in
-        never_six line default_order zeros r.trials a (q ∙ ap (λ v. (Ok (rating v r.trials), a)) six)
+    go : (x : Given) → grade_call line default_order default_ceiling zeros ≡ x → Answers line default_order default_ceiling x → shown n x.0 ≡ shown n (Ok (rating Stopped trials)) → ⊥
+    go (Err r, a) q w e = absurd (omega (arith, byte_is _ _ _ (shown_refusal n r) e))
+    go (Ok r, a) q w e = w.total.enough (omega arith) (omega (arith, byte_is _ _ _ (shown_rating n r) e))

@@ -3,6 +3,7 @@
 //     header       writes the header of a listing into a lent buffer
 //     list_line    writes the output line of a line into a lent buffer
 //     list         reads a whole input and writes its listing
+//     no_six       no line of a listing is one of verdict 6
 #![tactic(auto)]
 
 mod lister;
@@ -10,7 +11,7 @@ mod stream;
 
 ghost use Rattle.std.specs.Prelude.{◌≡◌, ◌++◌, ◌+◌, ◌≤◌, length};
 ghost use Rattle.arrayvec.specs.ArrayVec.{array_vec_len};
-ghost use Rattle.listing.specs.Listing.{header_line, field, shown, listed, Writes};
+ghost use Rattle.listing.specs.Listing.{header_line, field, shown, listed, NoSix, Writes};
 
 use arrayvec::ArrayVec;
 use grading::{Rating, grade};
@@ -90,3 +91,8 @@ pub fn list_line(number: u64, line: &[u8], out: &mut [u8; 64]) -> usize
 {
     write(&listed(number, line), out)
 }
+
+/// No line of a listing has verdict 6: under the default ceiling no grading is stopped.
+pub fn no_six()
+    ensures { NoSix }
+{}

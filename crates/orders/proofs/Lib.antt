@@ -1,3 +1,4 @@
 pub mod Techniques
 pub mod Orders
 pub mod Seen
+pub mod Rules

@@ -14,6 +14,7 @@ use lib.IntN.{ℤ, pos, negsuc}
 use lib.ListN.{length, get_or}
 use Rattle.grid.specs.Counting.{all}
 use Rattle.std.specs.Prelude.{Ok}
+use Rattle.std.specs.List.{Contains}
 use Rattle.std.proofs.lemmas.List.Sums.{position_or_len_is, fails_before_first}
 use Rattle.grid.proofs.Table.{false_is, not_fails, fails_not}
 use Rattle.grid.proofs.Least.{Least, least, least_is}
@@ -21,8 +22,10 @@ use Rattle.grid.proofs.Completion.{eq_iff, not_accepted}
 use Rattle.clauses.specs.Clauses.{range, over}
 use Rattle.clauses.specs.Literal.{Literal, is_literal}
 use Rattle.clauses.proofs.Signed.{literal_iff}
-use Rattle.clauses.proofs.Members.{place_of}
-use Rattle.orders.specs.Order.{default_order, first_no_literal, same, repeats, first_repeat, order_check, Literals}
+use Rattle.clauses.proofs.Members.{place_of, member_at}
+use Rattle.closure.specs.Laws.{NoneTwice}
+use Rattle.closure.proofs.Order.{order_covers}
+use Rattle.orders.specs.Order.{default_order, first_no_literal, same, repeats, first_repeat, order_check, Literals, EachOnce}
 use Rattle.orders.specs.Place.{table_place}
 
 -- the entry at place i, 0 past the end
@@ -90,26 +93,41 @@ accepted_iff o = go (eqb (length o) 1458) (ltb (first_no_literal o) 1458) (ltb (
     go true false false e f g =
         rw (e, f, g) ((λ q. (eqb-true (length o) 1458 e, ltb-false (first_no_literal o) 1458 f, ltb-false (first_repeat o) 1458 g)), λ h. refl)
 
--- 1,458 literals, each once
-abbrev pub EachOnce : List ℤ → Type 0
-EachOnce o =
-    (length o ≡ 1458) × ((k : ℕ) → k < 1458 → Literal (entry o k)) × ((i j : ℕ) → i < j → j < 1458 → entry o i ≡ entry o j → ⊥)
+-- so an order that is accepted has only literals,
+accepted_literals : (o : List ℤ) → order_check o ≡ Ok tt → Literals o
+unfolding first_no_literal
+accepted_literals o e k h =
+    let t = (accepted_iff o).0 e in
+    (literal_iff (entry o k)).0 (not_fails (is_literal (entry o k)) (fails_before_first no_literal o k (pos 0) (omega (arith, t.0, t.1, h))))
+
+pub accepted_literal : (o : List ℤ) → order_check o ≡ Ok tt → (l : ℤ) → Memᴰ l o → Literal l
+accepted_literal o e l m = let w = place_of (pos 0) o m in subst Literal w.2 (accepted_literals o e w.0 w.1)
+
+-- none at two places,
+accepted_once : (o : List ℤ) → order_check o ≡ Ok tt → NoneTwice o
+unfolding first_repeat
+accepted_once o e i j a b q =
+    let t = (accepted_iff o).0 e in
+    let f = (least (repeats o) (length o)).before j (omega (arith, t.0, t.2, b)) in
+    subst T f ((repeats_iff o j).1 (i, a, q))
+
+-- an element by its place is a member
+contains_iff : (o : List ℤ) (l : ℤ) → Memᴰ l o ↔ Contains o l
+contains_iff o l = ((λ m. place_of l o m), λ w. subst (λ x. Memᴰ x o) w.2 (member_at l o w.0 w.1))
+
+-- 1,458 literals, none at two places, are all of them
+each_once : (o : List ℤ) → length o ≡ 1458 → ((l : ℤ) → Memᴰ l o → Literal l) → NoneTwice o → EachOnce o
+each_once o long literal once =
+    let covers = order_covers o long literal once in
+    record {
+      long = long;
+      literals = λ l. ((λ h. (contains_iff o l).0 ((covers l).0 h)), λ w. (covers l).1 ((contains_iff o l).1 w));
+      once = once;
+    }
 
 pub accepted_order : (o : List ℤ) → order_check o ≡ Ok tt → EachOnce o
-unfolding first_no_literal first_repeat
-accepted_order o e = let t = (accepted_iff o).0 e in (
-  t.0,
-  (λ k h. (literal_iff (entry o k)).0 (not_fails (is_literal (entry o k)) (fails_before_first no_literal o k (pos 0) (omega (arith, t.1))))),
-  λ i j a b q.
-      let f = (least (repeats o) (length o)).before j (omega (arith, t.2)) in
-      subst T f ((repeats_iff o j).1 (i, a, q)),
-)
+accepted_order o e = each_once o ((accepted_iff o).0 e).0 (accepted_literal o e) (accepted_once o e)
 
--- so each entry of an order that is accepted is a literal,
-pub accepted_literal : (o : List ℤ) → order_check o ≡ Ok tt → (l : ℤ) → Memᴰ l o → Literal l
-accepted_literal o e l m = let a = accepted_order o e in let w = place_of (pos 0) o m in subst Literal w.2 (a.1 w.0 (omega (arith, a.0, w.1)))
-
--- and none is anything else
 pub accepted_no_other : (o : List ℤ) → order_check o ≡ Ok tt → first_no_literal o ≡ length o
 unfolding first_no_literal
 accepted_no_other o e =
@@ -120,18 +138,21 @@ pub no_other_literals : (o : List ℤ) → length o ≤ first_no_literal o → L
 unfolding first_no_literal
 no_other_literals o e k b = (literal_iff (entry o k)).0 (not_fails (is_literal (entry o k)) (fails_before_first no_literal o k (pos 0) (omega (arith, e))))
 
-order_accepted : (o : List ℤ) → EachOnce o → order_check o ≡ Ok tt
+pub order_accepted : (o : List ℤ) → EachOnce o → order_check o ≡ Ok tt
 unfolding first_no_literal first_repeat
 order_accepted o h = (accepted_iff o).1 (
-  h.0,
-  omega (arith, h.0, position_or_len_is no_literal o (length o) (pos 0) (omega arith) (λ k b. fails_not (is_literal (entry o k)) ((literal_iff (entry o k)).1 (h.1 k (omega (arith, h.0))))) (λ b. absurd (omega arith))),
-  omega (arith, h.0, least_is (repeats o) (length o) (length o) no_repeat),
+  h.long,
+  omega (arith, h.long, position_or_len_is no_literal o (length o) (pos 0) (omega arith) (λ k b. fails_not (is_literal (entry o k)) ((literal_iff (entry o k)).1 (entry_literal k b))) (λ b. absurd (omega arith))),
+  omega (arith, h.long, least_is (repeats o) (length o) (length o) no_repeat),
 )
   where
+    entry_literal : Literals o
+    entry_literal k b = (h.literals (entry o k)).1 ((contains_iff o (entry o k)).0 (member_at (pos 0) o k b))
+
     no_repeat : Least (repeats o) (length o) (length o)
     no_repeat = record {
       most = omega arith;
-      before = λ j b. false_is (repeats o j) (λ t. let w = (repeats_iff o j).0 t in h.2 w.0 j w.1 (omega (arith, h.0)) w.2);
+      before = λ j b. false_is (repeats o j) (λ t. let w = (repeats_iff o j).0 t in h.once w.0 j w.1 b w.2);
       here = λ b. absurd (omega arith);
     }
 
@@ -186,9 +207,14 @@ default_place i h =
       | no d ↦ (let q : 2 * (i / 2) + 1 ≡ i = omega arith in subst (λ x. Literal (entry default_order x) × (order_place (entry default_order x) ≡ i)) q (rw r.1 (k, omega arith)))
     ]
 
+default_literal : (l : ℤ) → Memᴰ l default_order → Literal l
+default_literal l m = let w = place_of (pos 0) default_order m in subst Literal w.2 (default_place w.0 (omega (arith, w.1, default_long))).0
+
+default_once : NoneTwice default_order
+default_once i j a b q = omega (arith, (default_place i (omega (arith, default_long))).1, (default_place j (omega (arith, default_long))).1, ap order_place q)
+
+pub default_each : EachOnce default_order
+default_each = each_once default_order default_long default_literal default_once
+
 pub default_accepted : order_check default_order ≡ Ok tt
-default_accepted = order_accepted default_order (
-  default_long,
-  (λ k h. (default_place k h).0),
-  λ i j a b q. omega (arith, (default_place i (omega arith)).1, (default_place j b).1, ap order_place q),
-)
+default_accepted = order_accepted default_order default_each

@@ -3,12 +3,11 @@
 -- Assumes nothing.
 use mathlib.Core.Path.{◌≡◌, refl}
 use mathlib.Core.Logic.{◌↔◌}
-use mathlib.Core.Bool.{Bool, true, false, ◌||◌, ◌&&◌}
+use mathlib.Core.Bool.{Bool, true, false}
 use mathlib.Core.List.{Memᴰ}
 use Prim.Native.Nat.{ℕ}
 use native.Mathlib.Decide.{ℕ_discrete}
 use native.Mathlib.Omega.{arith}
-use lib.Dec.{T, eqb}
 use borrow.Author.Tests.{ne_eqb}
 use Rattle.clauses.specs.Clauses.{Clause, clauses_of}
 use Rattle.clauses.specs.Shape.{InSet}
@@ -16,9 +15,9 @@ use Rattle.clauses.specs.declared.ClauseSet.{ClauseSet}
 use Rattle.clauses.specs.declared.ClauseSet.TheVariants.{Minimal, Extended}
 use Rattle.clauses.specs.declared.Shape.{Shape}
 use Rattle.clauses.proofs.Members.{member_iff}
-use Rattle.orders.specs.Technique.{SetWithin, AtLeast, technique_of, unit_minimal, unit_extended, trials_minimal, trials_extended}
+use Rattle.orders.specs.Technique.{is_same_or_below, SetWithin, AtLeast, number_of, technique_of, unit_minimal, unit_extended, trials_minimal, trials_extended}
 use Rattle.orders.specs.declared.technique.Technique.{Technique}
-use Rattle.std.specs.Prelude.{Result, Ok, Err}
+use Rattle.std.specs.Prelude.{Result, Ok, Err, IsTrue}
 use Rattle.grid.specs.declared.Refusal.{Refusal}
 use Rattle.grid.specs.declared.Refusal.TheVariants as refusal
 
@@ -40,28 +39,28 @@ module _ (P : ℕ → Technique → Type 0) (one : P 1 unit_minimal) (two : P 2 
           let none : ◌≡◌ {A = Result Technique Refusal} (Err refusal.Technique) (Ok t) = rw (ne_eqb n 1 a, ne_eqb n 2 b, ne_eqb n 3 c, ne_eqb n 4 d) at e in
           let z : ◌≡◌ {A = ℕ} 0 1 = cc in absurd (omega arith)
 
--- the table: the same, 1 below 2, 3 and 4, 2 below 4, 3 below 4
-abbrev pub same_or_below : ℕ → ℕ → Bool
-same_or_below m n = eqb m n || (eqb m 1 && (eqb n 2 || (eqb n 3 || eqb n 4))) || (eqb m 2 && eqb n 4) || (eqb m 3 && eqb n 4)
+-- the technique of a number has it
+pub technique_number : (n : ℕ) (t : Technique) → technique_of n ≡ Ok t → number_of t ≡ n
+technique_number n t e = each_technique (λ n t. number_of t ≡ n) refl refl refl refl n t e
 
-holds : {A : Type 0} → A → A ↔ T true
-holds a = ((λ x. tt), λ x. a)
+holds : {A : Type 0} → A → A ↔ IsTrue true
+holds a = ((λ x. refl), λ x. a)
 
-fails : {A : Type 0} → (A → ⊥) → A ↔ T false
-fails f = (f, λ x. absurd x)
+fails : {A : Type 0} → (A → ⊥) → A ↔ IsTrue false
+fails f = ((λ a. absurd (f a)), λ e. absurd (let z : ◌≡◌ {A = Bool} false true = e in cc))
 
-pub at_least_table : (m n : ℕ) (t u : Technique) → technique_of m ≡ Ok t → technique_of n ≡ Ok u → AtLeast t u ↔ T (same_or_below m n)
+pub at_least_table : (m n : ℕ) (t u : Technique) → technique_of m ≡ Ok t → technique_of n ≡ Ok u → AtLeast t u ↔ IsTrue (is_same_or_below m n)
 at_least_table m n t u p q =
-    each_technique (λ m t. AtLeast t u ↔ T (same_or_below m n))
+    each_technique (λ m t. AtLeast t u ↔ IsTrue (is_same_or_below m n))
     (row 1 unit_minimal (holds (tt, λ x. x)) (holds (tt, λ x. x)) (holds (tt, λ x. tt)) (holds (tt, λ x. tt)))
     (row 2 unit_extended (fails (λ h. h.0)) (holds (tt, λ x. x)) (fails (λ h. h.0)) (holds (tt, λ x. tt)))
     (row 3 trials_minimal (fails (λ h. h.1 tt)) (fails (λ h. h.1 tt)) (holds (tt, λ x. x)) (holds (tt, λ x. x)))
     (row 4 trials_extended (fails (λ h. h.0)) (fails (λ h. h.1 tt)) (fails (λ h. h.0)) (holds (tt, λ x. x))) m t p
   where
     row : (m : ℕ) (t : Technique)
-        → AtLeast t unit_minimal ↔ T (same_or_below m 1) → AtLeast t unit_extended ↔ T (same_or_below m 2)
-        → AtLeast t trials_minimal ↔ T (same_or_below m 3) → AtLeast t trials_extended ↔ T (same_or_below m 4) → AtLeast t u ↔ T (same_or_below m n)
-    row m t a b c d = each_technique (λ n u. AtLeast t u ↔ T (same_or_below m n)) a b c d n u q
+        → AtLeast t unit_minimal ↔ IsTrue (is_same_or_below m 1) → AtLeast t unit_extended ↔ IsTrue (is_same_or_below m 2)
+        → AtLeast t trials_minimal ↔ IsTrue (is_same_or_below m 3) → AtLeast t trials_extended ↔ IsTrue (is_same_or_below m 4) → AtLeast t u ↔ IsTrue (is_same_or_below m n)
+    row m t a b c d = each_technique (λ n u. AtLeast t u ↔ IsTrue (is_same_or_below m n)) a b c d n u q
 
 -- a shape of a set is one of a set that it is within
 shape_within : (s t : ClauseSet) → SetWithin s t → (x : Shape) → InSet s x → InSet t x

@@ -1,7 +1,9 @@
 // The order of trials: a list of 1,458 literals, each once.
-ghost use Rattle.std.specs.Prelude.{◌≡◌, length};
+ghost use Rattle.std.specs.Prelude.{◌≡◌, ◌↔◌, Ok, IsOk, length};
+ghost use Rattle.std.specs.Result.{result_err};
+ghost use Rattle.grid.specs.Refusals.{first_broken};
 ghost use Rattle.clauses.specs.Literal.{Literal};
-ghost use Rattle.orders.specs.Order.{default_order, first_no_literal, first_repeat, before, order_check, Literals};
+ghost use Rattle.orders.specs.Order.{default_order, first_no_literal, first_repeat, before, order_rules, order_check, Literals, EachOnce};
 ghost use Rattle.orders.specs.Place.{table_place};
 
 use clauses::literal;
@@ -13,9 +15,10 @@ pub const ENTRIES: usize = 1458;
 // The ceiling of a job file that names none: no job makes more trials.
 pub const DEFAULT_CEILING: u32 = 1062882;
 
-// +1, -1, +2, -2 to -729.
+/// The order of a caller that names none: +1, -1, +2, -2 to -729.
 pub fn default_order() -> [i16; ENTRIES]
-    ensures { result ≡ default_order }
+    ensures exact { result ≡ default_order }
+    ensures accepted { order_check result ≡ Ok tt }
 {
     let mut order = [0i16; ENTRIES];
     for k in 0..729 {
@@ -57,9 +60,12 @@ fn first_repeat(order: &[i16]) -> Option<usize>
     None
 }
 
-// The operator's check of an order: an entry that is no literal is reported before a repeat, wherever it stands.
+/// The operator's check of an order: 22 where it is not 1,458 long, 23 at the first entry that is no literal, 24 at the first that equals an earlier one. An
+/// entry that is no literal is reported before a repeat, wherever it stands.
 pub fn check_order(order: &[i16]) -> Result<(), Refusal>
-    ensures { result ≡ order_check order.now }
+    ensures exact { result ≡ order_check order.now }
+    ensures refused { result_err result ≡ first_broken (order_rules order.now) }
+    ensures accepted { IsOk result ↔ EachOnce order.now }
 {
     if order.len() != ENTRIES {
         return Err(Refusal::OrderLength);

@@ -1,6 +1,8 @@
 // The four techniques, each a clause set with or without trials.
-ghost use Rattle.std.specs.Prelude.{◌≡◌};
-ghost use Rattle.orders.specs.Technique.{unit_minimal, unit_extended, trials_minimal, trials_extended, number_of, technique_of};
+ghost use Rattle.std.specs.Prelude.{◌≡◌, [], ◌∷◌, IfOk};
+ghost use Rattle.std.specs.Result.{result_err};
+ghost use Rattle.grid.specs.Refusals.{first_broken};
+ghost use Rattle.orders.specs.Technique.{unit_minimal, unit_extended, trials_minimal, trials_extended, number_of, technique_rule, technique_of, AtLeastTable};
 
 use clauses::ClauseSet;
 use grid::Refusal;
@@ -72,14 +74,18 @@ impl Technique {
     }
 }
 
-// The technique of a number.
+// The technique of a number: 21 where there is none.
 impl TryFrom<u32> for Technique {
     type Error = Refusal;
 
     ghost try_from_gives = { λ number answer. answer ≡ technique_of number };
 
     #[tactic(auto, unfolding(crate::specs::Technique::technique_of))]
-    fn try_from(number: u32) -> Result<Self, Refusal> {
+    fn try_from(number: u32) -> Result<Self, Refusal>
+        ensures exact { result ≡ technique_of number }
+        ensures refused { result_err result ≡ first_broken (technique_rule number ∷ []) }
+        ensures ok { IfOk result (λ technique. number_of technique ≡ number) }
+    {
         match number {
             1 => Ok(Technique::unit_minimal()),
             2 => Ok(Technique::unit_extended()),
@@ -89,3 +95,8 @@ impl TryFrom<u32> for Technique {
         }
     }
 }
+
+/// "At least as strong" by the numbers of the techniques: the same, 1 below 2, 3 and 4, 2 below 4, 3 below 4. 2 and 3 are not compared.
+pub fn at_least_table()
+    ensures { AtLeastTable }
+{}

@@ -6,7 +6,7 @@ use Rattle.grid.specs.Refusals as refusal
 use Rattle.grid.specs.declared.Refusal.{Refusal}
 use Rattle.clauses.specs.Call as clause
 use Rattle.orders.specs.Technique as technique
-use Rattle.trials.specs.Steps.{outcome_number}
+use Rattle.closure.specs.Job.{outcome_number}
 use Rattle.trials.specs.declared.trial.End.{End}
 use Rattle.inference.specs.Call as job
 use Rattle.search.specs.Call as find

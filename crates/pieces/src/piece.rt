@@ -1,5 +1,6 @@
 // The pieces of a job file: one reader for pieces of every kind, and the walk from piece to piece.
-ghost use Rattle.std.specs.Prelude.{◌≡◌, ◌+◌, ◌<◌, ◌≤◌, length, IfOk};
+ghost use Rattle.std.specs.Prelude.{◌≡◌, ◌↔◌, Ok, Err, ◌+◌, ◌<◌, ◌≤◌, length, IfOk};
+ghost use Rattle.pieces.specs.Format.{Spells, IsFault};
 ghost use Rattle.pieces.specs.Pieces.{kind_of, body_length, rises, piece_at, with_body, walked, complete, pieces_of};
 
 use crate::number::word_at;
@@ -151,7 +152,9 @@ fn walk(file: &[u8]) -> Result<Found, Refusal>
 // The layout software's part: its pieces, refusals 31 to 33, then 34 where grid or technique is missing.
 #[tactic(auto, unfolding(crate::specs::Pieces::pieces_of))]
 pub fn read_pieces(file: &[u8]) -> Result<Bodies, Refusal>
-    ensures { result ≡ pieces_of file.now }
+    ensures exact { result ≡ pieces_of file.now }
+    ensures accepted { (bodies : _) → (result ≡ Ok bodies) ↔ Spells file.now bodies }
+    ensures refused { (refusal : _) → (result ≡ Err refusal) ↔ IsFault file.now refusal }
 {
     walk(file)?.complete()
 }

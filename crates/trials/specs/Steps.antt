@@ -8,17 +8,10 @@ use Rattle.propagation.specs.Steps.{Closed}
 use Rattle.worklist.specs.declared.acting.Clash.{Clash}
 use Rattle.trials.specs.Known.{KnownOk, PossibleOk}
 use Rattle.trials.specs.declared.trial.End.{End}
-use Rattle.trials.specs.declared.trial.Outcome.{Outcome}
-use Rattle.trials.specs.declared.trial.Outcome.TheVariants.{Solved, Open, Stopped, Contradiction}
+use Rattle.closure.specs.declared.Outcome.{Outcome}
+use Rattle.closure.specs.declared.Outcome.TheVariants.{Solved, Open, Stopped, Contradiction}
 use Rattle.trials.specs.declared.trial.Progress.{Progress}
 use Rattle.trials.specs.declared.trial.Job.{Job}
-
--- the numbers of the outcomes that hosts are told
-abbrev pub outcome_number : Outcome → ℕ
-outcome_number Solved = 1
-outcome_number Open = 2
-outcome_number Stopped = 3
-outcome_number Contradiction = 4
 
 -- the end of that outcome, with that count
 abbrev pub end : Outcome → ℕ → End

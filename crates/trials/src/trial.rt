@@ -8,10 +8,10 @@ ghost use Rattle.closure.specs.Marks.{is_decided};
 ghost use Rattle.closure.specs.Job.{passes as passes_along};
 ghost use Rattle.propagation.specs.Steps.{Closed};
 ghost use Rattle.trials.specs.Known.{Names, PossibleOk};
-ghost use Rattle.trials.specs.Steps.{Walking, Tried, Stepped, Walked, end_of, ended_at, outcome_number};
-ghost use Rattle.trials.specs.declared.trial.Outcome.TheVariants.{Contradiction};
+ghost use Rattle.trials.specs.Steps.{Walking, Tried, Stepped, Walked, end_of, ended_at};
 
 use clauses::{ClauseSet, literal};
+use closure::Outcome;
 use orders::order::Order;
 use propagation::close::close_with;
 use worklist::acting::{Clash, State, Worklist};
@@ -33,38 +33,6 @@ fn note(known: &mut [u8; 729], marks: &[u8; 729])
 {
     for p in 0..729 {
         known[p] |= marks[p];
-    }
-}
-
-// How a job ends.
-#[derive(Clone, Copy, Debug, PartialEq, Eq)]
-pub enum Outcome {
-    Solved,
-    Open,
-    Stopped,
-    Contradiction,
-}
-
-impl Outcome {
-    // The number that hosts are told. It is a method, since `u32::from` would not say which number.
-    pub fn number(self) -> u32
-        ensures { result ≡ outcome_number self }
-    {
-        match self {
-            Outcome::Solved => 1,
-            Outcome::Open => 2,
-            Outcome::Stopped => 3,
-            Outcome::Contradiction => 4,
-        }
-    }
-}
-
-// Where the negation of a failed literal fails too, the job ends.
-impl From<Clash> for Outcome {
-    ghost from_gives = { λ clash outcome. outcome ≡ Contradiction };
-
-    fn from(_clash: Clash) -> Outcome {
-        Outcome::Contradiction
     }
 }
 
@@ -136,7 +104,9 @@ impl Job<'_> {
         if is_named(progress.known[at], literal) {
             return Ok(false);
         }
-        let failed = self.attempt(progress, literal)?;
+        let Ok(failed) = self.attempt(progress, literal) else {
+            return Err(Outcome::Contradiction);
+        };
         if failed && progress.state.decided == 729 {
             return Err(Outcome::Solved);
         }

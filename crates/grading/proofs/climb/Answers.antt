@@ -14,8 +14,8 @@ use Rattle.closure.specs.Job as job
 use Rattle.orders.specs.declared.technique.Technique.{Technique}
 use Rattle.trials.specs.Steps.{end_of, ended_at}
 use Rattle.trials.specs.declared.trial.End.{End}
-use Rattle.trials.specs.declared.trial.Outcome.{Outcome}
-use Rattle.trials.specs.declared.trial.Outcome.TheVariants.{Solved, Open, Stopped, Contradiction}
+use Rattle.closure.specs.declared.Outcome.{Outcome}
+use Rattle.closure.specs.declared.Outcome.TheVariants.{Solved, Open, Stopped, Contradiction}
 use Rattle.grading.specs.Grade.{after_job, rate_from}
 use Rattle.grading.proofs.Grading.{job_at, rate_next, rate_none, count_left}
 use Rattle.grading.proofs.climb.Goals as goal

@@ -1,5 +1,5 @@
 -- The first 2 k entries are the default order's; after 729 turns all are.
-use mathlib.Core.Path.{◌≡◌, sym, ◌∙◌}
+use mathlib.Core.Path.{◌≡◌, ap, sym, ◌∙◌}
 use mathlib.Core.List.{List}
 use Prim.Native.Nat.{ℕ, suc, ◌+◌, ◌*◌, ◌<◌}
 use native.Mathlib.Decide.{ℕ_discrete}
@@ -8,8 +8,8 @@ use lib.IntN.{ℤ, pos, negsuc}
 use lib.ListN.{set, length-set}
 use lib.Seq.{ext_get_or, get_or-set_same, get_or-set_other}
 use Rattle.clauses.proofs.Signed.{returned}
-use Rattle.orders.specs.Order.{default_order}
-use Rattle.orders.proofs.Orders.{entry, default_long, default_at}
+use Rattle.orders.specs.Order.{default_order, order_check}
+use Rattle.orders.proofs.Orders.{entry, default_long, default_at, default_accepted}
 use Rattle.orders.proofs.order.default_order.Invariants.{Begun}
 use Rattle.orders.proofs.order.default_order.Goals as goal
 
@@ -32,4 +32,5 @@ loop-k-preserved c =
 pub returns : goal.returns
 returns c =
     let b = c.loop-k.invariant in
-    ext_get_or (pos 0) c.loop-k.order default_order (b.long ∙ sym default_long) (λ j h. b.same j (omega (arith, b.long)))
+    let e : c.loop-k.order ≡ default_order = ext_get_or (pos 0) c.loop-k.order default_order (b.long ∙ sym default_long) (λ j h. b.same j (omega (arith, b.long))) in
+    record { exact = e; accepted = ap order_check e ∙ default_accepted }

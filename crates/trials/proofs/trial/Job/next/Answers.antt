@@ -6,7 +6,7 @@ use native.Mathlib.Omega.{arith}
 use lib.Dec.{T}
 use lib.IntN.{ℤ, neg_ℤ}
 use lib.ListN.{get_or}
-use Rattle.std.specs.Prelude.{Result, Ok, Err, IsErrAnd}
+use Rattle.std.specs.Prelude.{Result, Ok, Err}
 use Rattle.clauses.specs.Clauses.{clauses_of}
 use Rattle.clauses.specs.Literal.{Literal, mark_index}
 use Rattle.clauses.proofs.Signed.{read}
@@ -18,8 +18,7 @@ use Rattle.worklist.specs.declared.acting.Clash.{Clash}
 use Rattle.trials.specs.Known.{Names, Named}
 use Rattle.trials.specs.Steps.{Walking, Tried, Stepped}
 use Rattle.trials.specs.declared.trial.Job.{Job}
-use Rattle.trials.specs.declared.trial.Outcome.{Outcome}
-use Rattle.trials.specs.declared.trial.Outcome.TheVariants.{Solved, Contradiction}
+use Rattle.closure.specs.declared.Outcome.TheVariants.{Solved, Contradiction}
 use Rattle.trials.specs.declared.trial.Progress.{Progress}
 use Rattle.trials.proofs.Knowing.{known_kept}
 use Rattle.trials.proofs.Trying.{byte_decided, next_skip, next_halt, next_tried, next_solved, next_more}
@@ -57,9 +56,8 @@ module _ (j : Job) (p : Progress) (l : ℤ) (open_ : T (is_decided p.state.marks
         walking = t.walking;
       }
 
-  stepped_err : (q : Progress) {x : Clash} → Tried j (counted p) l q (Err x) → (r : Result Bool Outcome) → IsErrAnd r (λ o. o ≡ Contradiction) → Stepped j p l q r
-  stepped_err q t (Ok f) e = absurd e
-  stepped_err q t (Err o) e = record { step = λ f. rw (e, t.count) (tried _ t.step f); walking = tt }
+  stepped_err : (q : Progress) {x : Clash} → Tried j (counted p) l q (Err x) → Stepped j p l q (Err Contradiction)
+  stepped_err q t = record { step = λ f. rw t.count (tried _ t.step f); walking = tt }
 
 -- what a byte of 0 there says
 undecided : (c : Else-progress-at-ne0) → T (is_decided c.args.progress.now.state.marks c.args.literal) → ⊥
@@ -116,16 +114,16 @@ tried_read : (c : Else-progress-self) {l : ℤ} {q : Progress} {r : Result Bool 
     → Tried c.args.self.now (counted c.args.progress.now) c.args.literal q r
 tried_read c {q = q} {r = r} e t = subst (λ x. Tried c.args.self.now (counted c.args.progress.now) x q r) e t
 
-pub returns-in_err-failed : goal.returns-in_err-failed
-returns-in_err-failed c =
-    let at = goal.at.returns-in_err-failed c in
-    let t = tried_read at.Else-progress-self (read c.args.literal c.ranges.literal) c.in_err-failed.ensures in
-    stepped_err c.args.self.now c.args.progress.now c.args.literal (undecided at.Else-progress-at-ne0) (below at.Else-progress-self) c.attempt.new.progress t c.from_residual.result c.from_residual.ensures.1
+pub returns-in_default : goal.returns-in_default
+returns-in_default c =
+    let at = goal.at.returns-in_default c in
+    let t = tried_read at.Else-progress-self (read c.args.literal c.ranges.literal) c.in_default.ensures in
+    stepped_err c.args.self.now c.args.progress.now c.args.literal (undecided at.Else-progress-at-ne0) (below at.Else-progress-self) c.attempt.new.progress t
 
 pub returns-then-progress-eq729 : goal.returns-then-progress-eq729
 returns-then-progress-eq729 c =
     let at = goal.at.returns-then-progress-eq729 c in
-    let t = tried_read at.Else-progress-self (read c.args.literal c.ranges.literal) (rw c.if-failed.true at c.in_ok-failed.ensures) in
+    let t = tried_read at.Else-progress-self (read c.args.literal c.ranges.literal) (rw c.if-failed.true at c.in-Ok.ensures) in
     stepped_solved c.args.self.now c.args.progress.now c.args.literal (undecided at.Else-progress-at-ne0) (below at.Else-progress-self) c.attempt.new.progress t c.if-progress-eq729.true
 
 pub returns : goal.returns
@@ -137,7 +135,7 @@ returns c =
     let u = undecided at.Else-progress-at-ne0 in
     let b = below at.Else-progress-self in
     let q = c.attempt.new.progress in
-    let t = tried_read at.Else-progress-self (read l c.ranges.literal) c.in_ok-failed.ensures in
+    let t = tried_read at.Else-progress-self (read l c.ranges.literal) c.in-Ok.ensures in
     elim c.else-failed.branch [
       | else-failed-via-then-failed+else-progress-eq729 w ↦ rw w.if-failed.true (stepped_more j p l u b q (rw w.if-failed.true at t) w.if-progress-eq729.false)
       | else-failed-via-else-failed w ↦ rw w.if-failed.false (stepped_kept j p l u b q (rw w.if-failed.false at t))

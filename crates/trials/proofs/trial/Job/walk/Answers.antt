@@ -12,7 +12,7 @@ use Rattle.clauses.proofs.Signed.{read}
 use Rattle.closure.specs.Job.{Walk, after, step, walk, walked, ended}
 use Rattle.trials.specs.Steps.{Stepped, Walked, ended_at, or_failed, walk_of}
 use Rattle.trials.specs.declared.trial.Job.{Job}
-use Rattle.trials.specs.declared.trial.Outcome.{Outcome}
+use Rattle.closure.specs.declared.Outcome.{Outcome}
 use Rattle.trials.specs.declared.trial.Progress.{Progress}
 use Rattle.orders.proofs.Orders.{no_other_literals}
 use Rattle.trials.proofs.Walking.{onward, rest, rest_next, rest_end}
