@@ -30,4 +30,5 @@ pub record Advances (held held' : Option (List ℕ)) (before after : List ℕ �
 
 -- what a step writes of what is to come: it advances, or it fails after a beginning of that, whatever is read from here on
 abbrev pub Steps : {T E : Type 0} → Option (List ℕ) → Option (List ℕ) → (List ℕ → List ℕ) → (List ℕ → List ℕ) → Result T E → Type 0
-Steps held held' before after result = MatchResult result (λ _. Advances held held' before after) (λ _. (unread : List ℕ) → AppendsFront held held' (before unread))
+Steps held held' before after result =
+    MatchResult result (λ _. Advances held held' before after) (λ _. (unread : List ℕ) → AppendsFront held held' (before unread))

@@ -3,7 +3,7 @@
 ghost use Rattle.std.specs.Prelude.{◌≡◌, ◌≢◌, ◌+◌, ◌≤◌, ℕ, List, [], ◌∷◌, ◌++◌, OnOk, OnErr};
 ghost use Rattle.std.specs.Io.KnownBytes.{Appends};
 ghost use Rattle.arrayvec.specs.ArrayVec.{array_vec_len};
-ghost use Rattle.listing.specs.Whole.{listing, HasNoNewline};
+ghost use Rattle.listing.specs.Listing.{listing, HasNoNewline};
 ghost use Rattle.listing.specs.Stream.{AppendsFront, Steps};
 
 use crate::{HEADER, listed};

@@ -1,7 +1,7 @@
 // A listing from a reader to a writer.
 ghost use Rattle.std.specs.Prelude.{◌≡◌, [], ◌++◌, IfSome, IfOk, IfErr, OnOk, OnErr};
 ghost use Rattle.std.specs.Io.KnownBytes.{Appends, IsAtEnd};
-ghost use Rattle.listing.specs.Whole.{listing};
+ghost use Rattle.listing.specs.Listing.{listing};
 ghost use Rattle.listing.specs.Stream.{Reads, AppendsFront, Leaves, Advances};
 ghost use Rattle.listing.specs.Lister.{to_come};
 

@@ -1,7 +1,7 @@
 -- A reader that is at its end has given all that it had.
 use Rattle.std.specs.Io.KnownBytes.{Appends}
 use Rattle.std.proofs.KnownBytes.{Consumes-whole}
-use Rattle.listing.specs.Whole.{listing}
+use Rattle.listing.specs.Listing.{listing}
 use Rattle.listing.proofs.stream.list.Goals as goal
 
 pub returns-in-Ok-Ok-clause-ok : goal.returns-in-Ok-Ok-clause-ok
