@@ -109,7 +109,7 @@ impl Lister {
         self.flush(writer)
     }
 
-    // Ends the last line, where its newline is missing. Nothing waits between two pieces.
+    // Ends the last line, where its newline is missing, and writes its output line. Nothing waits between two pieces.
     pub(crate) fn finish<W: Write>(&mut self, writer: &mut W) -> io::Result<()>
         requires { self.old.waiting.items ≡ [] }
         ensures ok { OnOk result

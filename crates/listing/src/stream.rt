@@ -64,6 +64,7 @@ fn answer_all<R: Read, W: Write>(reader: &mut R, writer: &mut W) -> io::Result<i
 /// the next is read. The last line may end without a newline. Lines may be of any length and number: nothing is allocated. A read or a write that a signal
 /// interrupts is made again. Where a read fails, a line that it cuts off is answered as far as it came.
 pub fn list<R: Read, W: Write>(reader: &mut R, writer: &mut W) -> Result<(), Failure>
+    // `remaining` is what reads will give from here on, and `contents` what the writer holds, where they are known: of a file or a terminal they are not.
     // All that the reader had left is read, and the writer has got its listing, in whatever pieces they came and went.
     ensures ok { OnOk result (IfSome (R.remaining reader.old) (λ input.
         Appends (W.contents writer.old) (W.contents writer.new) (listing input))) }
