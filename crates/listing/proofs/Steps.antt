@@ -4,13 +4,13 @@ use mathlib.Core.Path.{◌≡◌, sym, ap, ◌∙◌, subst}
 use mathlib.Core.List.{List, [], ◌∷◌, ◌++◌, append_assoc}
 use Prim.Native.Nat.{ℕ, ◌+◌, ◌<◌, ◌≤◌}
 use lib.ListN.{length, get_or, drop}
-use Rattle.std.specs.Prelude.{Option}
+use Rattle.std.specs.Prelude.{Option, Result, Ok, Err}
 use Rattle.std.specs.Io.KnownBytes.{Keeps, Appends, Consumes}
 use Rattle.std.proofs.KnownBytes.{Appends-nil, Appends-trans, Consumes-trans, Consumes-kept, starts_with_rest}
 use Rattle.std.proofs.Common.{add-one, drop-cons, drop_of_length-le}
 use Rattle.std.proofs.lemmas.List.{append-nil}
 use Rattle.std.proofs.Transfers.{starts_with_of_append}
-use Rattle.listing.specs.Stream.{Reads, AppendsFront, Advances}
+use Rattle.listing.specs.Stream.{Reads, AppendsFront, Advances, Steps}
 
 -- nothing is written
 pub stays : {f g : List ℕ → List ℕ} (a : Option (List ℕ)) → ((unread : List ℕ) → f unread ≡ g unread) → Advances a a f g
@@ -40,13 +40,34 @@ module _ {a b : Option (List ℕ)} {f g : List ℕ → List ℕ} where
         begins = starts_with_of_append (f unread) (p.front ++ q.front) _ (p.rest unread ∙ whole ∙ sym (append_assoc p.front q.front _));
       }
 
+-- a step after what was written, whether it fails or not
+pub steps_then : {T E : Type 0} {a b : Option (List ℕ)} {f g : List ℕ → List ℕ} (c : Option (List ℕ)) (h : List ℕ → List ℕ) (r : Result T E)
+    → Advances a b f g → Steps b c g h r → Steps a c f h r
+steps_then c h (Ok x) p q = advances_then p q
+steps_then c h (Err e) p q = λ unread. advances_front p unread (q unread)
+
+-- where nothing is to be read
+pub front_alone : {a b : Option (List ℕ)} (due : List ℕ → List ℕ) (bs : List ℕ) → AppendsFront a b (due (bs ++ [])) → AppendsFront a b (due bs)
+front_alone {a} {b} due bs p = subst (λ l. AppendsFront a b (due l)) (append-nil bs) p
+
 -- a piece of input, byte by byte: its next byte,
+next_is : (piece : List ℕ) (i : ℕ) → i < length piece → drop i piece ≡ get_or piece i 0 ∷ drop (i + 1) piece
+next_is piece i within = rw add-one (drop-cons piece i 0 within)
+
 pub next_byte : {a b : Option (List ℕ)} (f g : List ℕ → List ℕ) (piece : List ℕ) (i : ℕ) → i < length piece
     → Advances a b (λ unread. f (get_or piece i 0 ∷ unread)) g
     → Advances a b (λ unread. f (drop i piece ++ unread)) (λ unread. g (drop (i + 1) piece ++ unread))
 next_byte f g piece i within p =
-    let next : drop i piece ≡ get_or piece i 0 ∷ drop (i + 1) piece = rw add-one (drop-cons piece i 0 within) in
-    record { front = p.front; written = p.written; rest = λ unread. ap (λ l. f (l ++ unread)) next ∙ p.rest (drop (i + 1) piece ++ unread) }
+    record {
+      front = p.front;
+      written = p.written;
+      rest = λ unread. ap (λ l. f (l ++ unread)) (next_is piece i within) ∙ p.rest (drop (i + 1) piece ++ unread);
+    }
+
+pub next_front : {a b : Option (List ℕ)} (f : List ℕ → List ℕ) (piece : List ℕ) (i : ℕ) → i < length piece
+    → ((unread : List ℕ) → AppendsFront a b (f (get_or piece i 0 ∷ unread))) → (unread : List ℕ) → AppendsFront a b (f (drop i piece ++ unread))
+next_front {a} {b} f piece i within p unread =
+    subst (λ l. AppendsFront a b (f (l ++ unread))) (sym (next_is piece i within)) (p (drop (i + 1) piece ++ unread))
 
 -- and its end
 pub no_more : {a b : Option (List ℕ)} {f : List ℕ → List ℕ} (g : List ℕ → List ℕ) (piece : List ℕ) (i : ℕ) → length piece ≤ i
@@ -62,28 +83,27 @@ pub piece_more : {a b c d d' : Option (List ℕ)} (f : List ℕ → List ℕ) {g
 piece_more {a} {b} {c} {d} f {g} b' bs p given q =
     let before : Advances c d (λ unread. f ((p.input ++ bs) ++ unread)) (λ unread. g (bs ++ unread)) =
     record {
-      front = p.then.front;
-      written = p.then.written;
-      rest = λ unread. ap f (append_assoc p.input bs unread) ∙ p.then.rest (bs ++ unread);
+      front = p.holds.front;
+      written = p.holds.written;
+      rest = λ unread. ap f (append_assoc p.input bs unread) ∙ p.holds.rest (bs ++ unread);
     } in
-    record { input = p.input ++ bs; given = Consumes-trans a b b' p.input bs p.given given; then = advances_then before q }
+    record { input = p.input ++ bs; given = Consumes-trans a b b' p.input bs p.given given; holds = advances_then before q }
 
 -- none,
 pub none_more : {a b : Option (List ℕ)} {P : List ℕ → Type 0} (b' : Option (List ℕ)) → Reads a b P → Keeps b b' → Reads a b' P
-none_more {a} {b} b' p same = record { input = p.input; given = Consumes-kept a b b' p.input p.given same; then = p.then }
+none_more {a} {b} b' p same = record { input = p.input; given = Consumes-kept a b b' p.input p.given same; holds = p.holds }
 
 -- and all of it, which is answered at its end
 module _ {a b c d d' : Option (List ℕ)} {f g h : List ℕ → List ℕ} (begun : Advances c d f g)
     (over : Reads a b (λ input. Advances d d' (λ unread. g (input ++ unread)) h)) where
   due : Advances c d' (λ unread. f (over.input ++ unread)) h
-  due = advances_then (record { front = begun.front; written = begun.written; rest = λ unread. begun.rest (over.input ++ unread) }) over.then
+  due = advances_then (record { front = begun.front; written = begun.written; rest = λ unread. begun.rest (over.input ++ unread) }) over.holds
 
   pub answered_all : (e : Option (List ℕ)) → Appends d' e (h []) → Reads a b (λ input. Appends c e (f input))
   answered_all e last =
       let all = advances_all e due [] last in
-      record { input = over.input; given = over.given; then = subst (λ l. Appends c e (f l)) (append-nil over.input) all }
+      record { input = over.input; given = over.given; holds = subst (λ l. Appends c e (f l)) (append-nil over.input) all }
 
   pub answered_front : {e : Option (List ℕ)} → AppendsFront d' e (h []) → Reads a b (λ input. AppendsFront c e (f input))
   answered_front {e} last =
-      let front = advances_front due [] last in
-      record { input = over.input; given = over.given; then = subst (λ l. AppendsFront c e (f l)) (append-nil over.input) front }
+      record { input = over.input; given = over.given; holds = front_alone f over.input (advances_front due [] last) }

@@ -1,4 +1,3 @@
 pub mod Listing
-pub mod Whole
 pub mod Stream
 pub mod Lister

@@ -1,5 +1,6 @@
--- The lines of a listing, byte for byte.
-use Rattle.std.specs.Prelude.{◌≡◌, cond, List, [], ◌∷◌, ◌++◌, ℕ, zero, suc, ◌+◌, ◌/◌, ◌%◌, ◌≤◌, ltb, length, set, Result, Ok, Err}
+-- Listings, byte for byte: the output line of a line, and the listing of a whole input.
+use Rattle.std.specs.Prelude.{◌≡◌, ◌≢◌, if◌then◌else◌, ◌==◌, nat_lt, ℕ, zero, suc, ◌+◌, ◌-◌, ◌/◌, ◌%◌, ◌^◌, ◌≤◌, min}
+use Rattle.std.specs.Prelude.{List, [], ◌∷◌, ◌++◌, All, length, set, Result, Ok, Err}
 use Rattle.grid.specs.Refusals as refusals
 use Rattle.grid.specs.declared.Refusal.{Refusal}
 use Rattle.orders.specs.Order.{default_order, default_ceiling}
@@ -16,7 +17,7 @@ header_line = 108 ∷ 105 ∷ 110 ∷ 101 ∷ 32 ∷ 118 ∷ 101 ∷ 114 ∷ 100
 -- the digits of n, if they are at most so many
 unfoldable pub decimal_in : ℕ → ℕ → List ℕ
 decimal_in zero n = []
-decimal_in (suc k) n = cond (ltb n 10) ((48 + n) ∷ []) (decimal_in k (n / 10) ++ ((48 + n % 10) ∷ []))
+decimal_in (suc k) n = if nat_lt n 10 then (48 + n) ∷ [] else decimal_in k (n / 10) ++ ((48 + n % 10) ∷ [])
 
 -- n as text: its digits, the most significant first, without leading zeros
 unfoldable pub decimal : ℕ → List ℕ
@@ -35,9 +36,34 @@ shown n (Err r) = ((field n 32 ++ (82 ∷ [])) ++ (32 ∷ [])) ++ field (refusal
 unfoldable pub listed : ℕ → List ℕ → List ℕ
 listed n line = shown n (grade_call line default_order default_ceiling zeros).0
 
+-- lines with a byte more at the front of the first
+abbrev pub onto_first : ℕ → List (List ℕ) → List (List ℕ)
+onto_first b [] = (b ∷ []) ∷ []
+onto_first b (line ∷ lines) = (b ∷ line) ∷ lines
+
+-- the lines of an input. A newline, byte 10, ends its line and is no part of it, and the last line may end without one: so `ab` and two newlines are two
+-- lines, of which the second is empty, and an empty input has none
+unfoldable pub lines_of : List ℕ → List (List ℕ)
+lines_of [] = []
+lines_of (b ∷ bs) = if b == 10 then [] ∷ lines_of bs else onto_first b (lines_of bs)
+
+-- the output lines of lines that are numbered from n on. A number that 64 bits do not hold is shown as the greatest that they do: no input of fewer than
+-- 2 ^ 64 bytes has such a line
+unfoldable pub listed_from : ℕ → List (List ℕ) → List ℕ
+listed_from n [] = []
+listed_from n (line ∷ lines) = listed (min n (2 ^ 64 - 1)) line ++ listed_from (n + 1) lines
+
+-- the listing of an input: the header, and the output line of each of its lines, which are numbered from 1
+abbrev pub listing : List ℕ → List ℕ
+listing input = header_line ++ listed_from 1 (lines_of input)
+
 -- no line of a listing is one of verdict 6, stopped
 abbrev pub NoSix : Type 0
 NoSix = (n : ℕ) (line : List ℕ) (trials : ℕ) → listed n line ≡ shown n (Ok (rating verdict.Stopped trials)) → ⊥
+
+-- bytes of which none is a newline
+abbrev pub HasNoNewline : List ℕ → Type 0
+HasNoNewline line = All (λ b. b ≢ 10) line
 
 -- bytes written from place `at` on
 unfoldable pub written_at : ℕ → List ℕ → List ℕ → List ℕ

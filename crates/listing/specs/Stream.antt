@@ -1,5 +1,5 @@
 -- What a run has read and written. A reader's bytes are those that it has left, and a writer's those that it holds, where they are known.
-use Rattle.std.specs.Prelude.{◌≡◌, Option, List, ◌++◌, ℕ}
+use Rattle.std.specs.Prelude.{◌≡◌, Option, Result, MatchResult, List, ◌++◌, ℕ}
 use Rattle.std.specs.Io.{StartsWith}
 use Rattle.std.specs.Io.KnownBytes.{Appends, Consumes}
 use Rattle.listing.specs.declared.stream.Failure.{Failure}
@@ -9,7 +9,7 @@ use Rattle.listing.specs.declared.stream.Failure.TheVariants.{Read, Write}
 pub record Reads (left left' : Option (List ℕ)) (P : List ℕ → Type 0) : Type 0 where
   pub input : List ℕ
   pub given : Consumes left left' input
-  pub then : P input
+  pub holds : P input
 
 -- a writer has got a beginning of a text
 pub record AppendsFront (held held' : Option (List ℕ)) (text : List ℕ) : Type 0 where
@@ -27,3 +27,8 @@ pub record Advances (held held' : Option (List ℕ)) (before after : List ℕ �
   pub front : List ℕ
   pub written : Appends held held' front
   pub rest : (unread : List ℕ) → before unread ≡ front ++ after unread
+
+-- what a step writes of what is to come: it advances, or it fails after a beginning of that, whatever is read from here on
+abbrev pub Steps : {T E : Type 0} → Option (List ℕ) → Option (List ℕ) → (List ℕ → List ℕ) → (List ℕ → List ℕ) → Result T E → Type 0
+Steps held held' before after result =
+    MatchResult result (λ _. Advances held held' before after) (λ _. (unread : List ℕ) → AppendsFront held held' (before unread))

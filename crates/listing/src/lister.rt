@@ -3,8 +3,8 @@
 ghost use Rattle.std.specs.Prelude.{◌≡◌, ◌≢◌, ◌+◌, ◌≤◌, ℕ, List, [], ◌∷◌, ◌++◌, OnOk, OnErr};
 ghost use Rattle.std.specs.Io.KnownBytes.{Appends};
 ghost use Rattle.arrayvec.specs.ArrayVec.{array_vec_len};
-ghost use Rattle.listing.specs.Whole.{listing, HasNoNewline};
-ghost use Rattle.listing.specs.Stream.{AppendsFront, Advances};
+ghost use Rattle.listing.specs.Listing.{listing, HasNoNewline};
+ghost use Rattle.listing.specs.Stream.{AppendsFront, Steps};
 
 use crate::{HEADER, listed};
 use arrayvec::ArrayVec;
@@ -15,7 +15,7 @@ use std::io::{self, ErrorKind, Write};
 pub(crate) struct Lister {
     // The number of the line, as far as 64 bits go.
     number: u64,
-    // Its first 82 bytes.
+    // Its first 82 bytes: that is one more than a grid has, so they tell that it is too long.
     line: ArrayVec<u8, 82>,
     waiting: ArrayVec<u8, 4096>,
     ghost unended: { HasNoNewline line.items },
@@ -39,11 +39,9 @@ impl Lister {
 
     // Writes what waits.
     pub(crate) fn flush<W: Write>(&mut self, writer: &mut W) -> io::Result<()>
-        ensures ok { OnOk result (Advances (W.contents writer.old) (W.contents writer.new)
-            (to_come self.old) (to_come self.new)) }
+        ensures step { Steps (W.contents writer.old) (W.contents writer.new)
+            (to_come self.old) (to_come self.new) result }
         ensures empty { OnOk result (self.new.waiting.items ≡ []) }
-        ensures err { OnErr result ((unread : List ℕ) →
-            AppendsFront (W.contents writer.old) (W.contents writer.new) (to_come self.old unread)) }
     {
         write_all(writer, &self.waiting)?;
         self.waiting.clear();
@@ -63,7 +61,8 @@ impl Lister {
     // Ends the line, whose output line waits from here on, and begins the next.
     fn end_line(&mut self)
         requires { array_vec_len self.old.waiting + 64 ≤ 4096 }
-        ensures listed { (unread : List ℕ) → to_come self.old (10 ∷ unread) ≡ to_come self.new unread }
+        ensures listed { (unread : List ℕ) →
+            to_come self.old (10 ∷ unread) ≡ to_come self.new unread }
         ensures begun { self.new.line.items ≡ [] }
     {
         let text = listed(self.number, &self.line);
@@ -74,11 +73,9 @@ impl Lister {
 
     // Makes room for an output line.
     fn make_room<W: Write>(&mut self, writer: &mut W) -> io::Result<()>
-        ensures ok { OnOk result (Advances (W.contents writer.old) (W.contents writer.new)
-            (to_come self.old) (to_come self.new)) }
+        ensures step { Steps (W.contents writer.old) (W.contents writer.new)
+            (to_come self.old) (to_come self.new) result }
         ensures room { OnOk result (array_vec_len self.new.waiting + 64 ≤ 4096) }
-        ensures err { OnErr result ((unread : List ℕ) →
-            AppendsFront (W.contents writer.old) (W.contents writer.new) (to_come self.old unread)) }
     {
         if self.waiting.remaining_capacity() < 64 {
             self.flush(writer)?;
@@ -88,10 +85,8 @@ impl Lister {
 
     // Takes in a byte of the input.
     fn take_byte<W: Write>(&mut self, writer: &mut W, byte: u8) -> io::Result<()>
-        ensures ok { OnOk result (Advances (W.contents writer.old) (W.contents writer.new)
-            (λ unread. to_come self.old (byte ∷ unread)) (to_come self.new)) }
-        ensures err { OnErr result ((unread : List ℕ) →
-            AppendsFront (W.contents writer.old) (W.contents writer.new) (to_come self.old unread)) }
+        ensures { Steps (W.contents writer.old) (W.contents writer.new)
+            (λ unread. to_come self.old (byte ∷ unread)) (to_come self.new) result }
     {
         if byte == b'\n' {
             self.make_room(writer)?;
@@ -104,11 +99,9 @@ impl Lister {
 
     // Takes in a piece of the input, and writes what it gives.
     pub(crate) fn take_piece<W: Write>(&mut self, writer: &mut W, piece: &[u8]) -> io::Result<()>
-        ensures ok { OnOk result (Advances (W.contents writer.old) (W.contents writer.new)
-            (λ unread. to_come self.old (piece.now ++ unread)) (to_come self.new)) }
+        ensures step { Steps (W.contents writer.old) (W.contents writer.new)
+            (λ unread. to_come self.old (piece.now ++ unread)) (to_come self.new) result }
         ensures empty { OnOk result (self.new.waiting.items ≡ []) }
-        ensures err { OnErr result
-            (AppendsFront (W.contents writer.old) (W.contents writer.new) (to_come self.old piece.now)) }
     {
         for &byte in piece {
             self.take_byte(writer, byte)?;
@@ -116,7 +109,7 @@ impl Lister {
         self.flush(writer)
     }
 
-    // Ends the last line, where its newline is missing. Nothing waits between two pieces.
+    // Ends the last line, where its newline is missing, and writes its output line. Nothing waits between two pieces.
     pub(crate) fn finish<W: Write>(&mut self, writer: &mut W) -> io::Result<()>
         requires { self.old.waiting.items ≡ [] }
         ensures ok { OnOk result
@@ -132,13 +125,14 @@ impl Lister {
     }
 }
 
-// Writes bytes, again where a signal interrupts it. Where it fails it has written a beginning of them.
+// Writes bytes, in as many writes as it takes. Where one fails, a beginning of them is written.
 fn write_all<W: Write>(writer: &mut W, bytes: &[u8]) -> io::Result<()>
     ensures ok { OnOk result (Appends (W.contents writer.old) (W.contents writer.new) bytes.now) }
-    ensures err { OnErr result (AppendsFront (W.contents writer.old) (W.contents writer.new) bytes.now) }
+    ensures err { OnErr result
+        (AppendsFront (W.contents writer.old) (W.contents writer.new) bytes.now) }
 {
     let mut written = 0;
-    // A loop has an end: each turn writes a byte or more, or a signal has interrupted it.
+    // Turns are counted, since a call has to return: each writes a byte or more, or a signal has interrupted it.
     'writes: for _ in 0..u64::MAX {
         if bytes.len() <= written {
             return Ok(());

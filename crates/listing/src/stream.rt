@@ -1,7 +1,7 @@
 // A listing from a reader to a writer.
 ghost use Rattle.std.specs.Prelude.{◌≡◌, [], ◌++◌, IfSome, IfOk, IfErr, OnOk, OnErr};
 ghost use Rattle.std.specs.Io.KnownBytes.{Appends, IsAtEnd};
-ghost use Rattle.listing.specs.Whole.{listing};
+ghost use Rattle.listing.specs.Listing.{listing};
 ghost use Rattle.listing.specs.Stream.{Reads, AppendsFront, Leaves, Advances};
 ghost use Rattle.listing.specs.Lister.{to_come};
 
@@ -13,7 +13,7 @@ use std::io::{self, ErrorKind, Read, Write};
 pub enum Failure {
     /// A read failed. What was read before is answered.
     Read(io::Error),
-    /// A write failed.
+    /// A write failed, perhaps after a read did.
     Write(io::Error),
 }
 
@@ -33,7 +33,7 @@ fn answer_pieces<R: Read, W: Write>(
         AppendsFront (W.contents writer.old) (W.contents writer.new) (to_come lister.old input))) }
 {
     let mut piece = [0; 65536];
-    // A loop has an end: each turn reads a byte or more, or a signal has interrupted it.
+    // Turns are counted, since a call has to return: each reads a byte or more, or a signal has interrupted it.
     'reads: for _ in 0..u64::MAX {
         match reader.read(&mut piece) {
             Ok(0) => return Ok(Ok(())),
@@ -60,10 +60,11 @@ fn answer_all<R: Read, W: Write>(reader: &mut R, writer: &mut W) -> io::Result<i
     Ok(read)
 }
 
-/// Reads lines to the end of the reader, a read of no bytes, and writes their listing: the header at once, and what a piece of input gives before the next is
-/// read. The last line may end without a newline. Lines may be of any length and number, since nothing is allocated. A read or a write that a signal
+/// Reads lines to the end of the reader, where a read gives no bytes, and writes their listing: the header at once, and what a piece of input gives before
+/// the next is read. The last line may end without a newline. Lines may be of any length and number: nothing is allocated. A read or a write that a signal
 /// interrupts is made again. Where a read fails, a line that it cuts off is answered as far as it came.
 pub fn list<R: Read, W: Write>(reader: &mut R, writer: &mut W) -> Result<(), Failure>
+    // `remaining` is what reads will give from here on, and `contents` what the writer holds, where they are known: of a file or a terminal they are not.
     // All that the reader had left is read, and the writer has got its listing, in whatever pieces they came and went.
     ensures ok { OnOk result (IfSome (R.remaining reader.old) (λ input.
         Appends (W.contents writer.old) (W.contents writer.new) (listing input))) }

@@ -11,7 +11,7 @@ use Rattle.std.proofs.lemmas.List.{append-nil}
 use Rattle.std.proofs.lemmas.Result.{on_ok_weaker, on_err_weaker}
 use Rattle.listing.specs.Stream.{AppendsFront}
 use Rattle.listing.specs.Lister.{to_come}
-use Rattle.listing.specs.Whole.{lines_of, listed_from}
+use Rattle.listing.specs.Listing.{lines_of, listed_from}
 use Rattle.listing.specs.declared.lister.Lister.{Lister}
 use Rattle.listing.proofs.Lines.{lines_last}
 use Rattle.listing.proofs.lister.Lister.finish.Goals as goal
