@@ -1,2 +1,1 @@
 pub mod Completions
-pub mod Left

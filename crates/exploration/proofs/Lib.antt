@@ -1,5 +1,5 @@
 pub mod Finding
-mod Marked
-mod Full
 mod Branches
+mod Exploring
+mod AllDigits
 pub mod Reports

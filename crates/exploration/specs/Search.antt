@@ -1,9 +1,11 @@
--- The search: what it finds, and what its marks say on the way.
-use Rattle.std.specs.Prelude.{◌≡◌, Bool, true, false, not, List, [], ◌∷◌, ℕ, ◌+◌, ◌*◌, ◌<◌, eqb, pos, get_or, replicate, Option, MatchOption}
-use Rattle.grid.specs.Counting.{tally, all}
-use Rattle.clauses.specs.Models.{pick, completion_of}
-use Rattle.closure.specs.Marks.{has}
+-- The search: what it finds, and what it knows on the way.
+use Rattle.std.specs.Prelude.{◌+◌, ◌≡◌, not, List, [], ◌∷◌, ◌++◌, ℕ, ◌≤◌, ◌<◌, replicate, T, IsTrue, Bool, Option, Some, MatchOption, ◌↔◌}
+use Rattle.grid.specs.Counting.{tally}
+use Rattle.grid.specs.Grid.{byte, is_digit}
+use Rattle.grid.specs.Completion.{Legal}
+use Rattle.boards.specs.Boards.{On, Has, Fits}
 use Rattle.exploration.specs.declared.Found.{Found}
+use Rattle.exploration.specs.declared.Open.{Open}
 use Rattle.exploration.specs.declared.Found.TheVariants.{Nothing, One, Several}
 
 -- 81 zero bytes: what stands for no completion
@@ -34,28 +36,45 @@ second_of Nothing = zeros
 second_of (One a) = zeros
 second_of (Several a b) = b
 
--- digit d + 1 is marked true in cell c, both counted from 0
-abbrev pub is_in : List ℕ → ℕ → ℕ → Bool
-is_in m c d = eqb (get_or m (9 * c + d) 0) 1
+-- so much more is found: after the completions of one list those of another
+abbrev pub Adds : Found → Found → List (List ℕ) → Type 0
+Adds old new more = (before : List (List ℕ)) → old ≡ found_of before → new ≡ found_of (before ++ more)
 
 -- a cell with no digit is open
-unfoldable pub is_open : List ℕ → ℕ → Bool
-is_open m c = all 9 (λ d. not (is_in m c d))
+abbrev pub is_open : List ℕ → ℕ → Bool
+is_open g c = not (is_digit (byte g c))
 
 -- the number of open cells
 unfoldable pub open_cells : List ℕ → ℕ
-open_cells m = tally 81 (is_open m)
+open_cells g = tally 81 (is_open g)
 
--- the first open cell: before it no cell is open; or none, where no cell is
-abbrev pub FirstOpen : List ℕ → Option ℕ → Type 0
-FirstOpen m r =
-    MatchOption r ((k : ℕ) → k < 81 → is_open m k ≡ false)
-    (λ c. (c < 81) × (is_open m c ≡ true) × ((k : ℕ) → k < c → is_open m k ≡ false))
+-- the cells before a cell all have digits
+abbrev pub ClosedBefore : List ℕ → ℕ → Type 0
+ClosedBefore g c = (k : ℕ) → k < c → T (is_digit (byte g k))
 
--- the digit byte that is marked in a cell
-unfoldable pub digit_in : List ℕ → ℕ → ℕ
-digit_in m c = 49 + pick 9 (is_in m c)
+-- the next digit of some that are given by bits, from one on, or 9: none is passed over
+pub record NextDigit (digits from r : ℕ) : Type 0 where
+  pub low : from ≤ r
+  pub high : r ≤ 9
+  pub passed : (d : ℕ) → from ≤ d → d < r → On digits d → ⊥
 
--- the digit bytes that are marked
-unfoldable pub digits_in : List ℕ → List ℕ
-digits_in m = completion_of (λ v. has m (pos v))
+-- What is known of a grid's completions: they fit the boards, and where one grid is named, none is another.
+pub record Bounds (only : Option (List ℕ)) (words g : List ℕ) : Type 0 where
+  pub fits : (b : List ℕ) → Legal g b → Fits words b
+  pub single : (b grid : List ℕ) → Legal g b → only ≡ Some grid → grid ≡ b
+
+-- Among the digits are all that a completion has in a cell.
+abbrev pub MayHave : List ℕ → ℕ → ℕ → Type 0
+MayHave g c digits = (b : List ℕ) (d : ℕ) → Legal g b → d < 9 → byte b c ≡ 49 + d → On digits d
+
+-- Cells have got their digits, and no completion is lost. Either no cell is open then, or this is the first open cell.
+pub record Fills (old new : List ℕ) (r : Option Open) : Type 0 where
+  pub legal : (b : List ℕ) → Legal old b ↔ Legal new b
+  pub fewer : open_cells new ≤ open_cells old
+  pub first :
+      MatchOption r (ClosedBefore new 81)
+      (λ x. (x.cell < 81) × T (is_open new x.cell) × ClosedBefore new x.cell × MayHave new x.cell x.digits)
+
+-- What fits and has the digit in the cell fits then, and its branch is entered.
+abbrev pub Enters : List ℕ → List ℕ → ℕ → ℕ → ℕ → Bool → Type 0
+Enters old new d j i entered = (b : List ℕ) → Fits old b → Has b d j i → IsTrue entered × Fits new b

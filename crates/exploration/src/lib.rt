@@ -1,23 +1,26 @@
-// The complete search: branching on the first open cell, digits rising, so that completions are found in byte order. A branch is entered
-// unless a test refutes it; of that test only this is used, that what it refutes leaves nothing.
+// The complete search: branching on the first open cell, digits rising, so that completions are found in byte order. Each branch has fewer cells open. A
+// branch is entered unless it is known to have no completion: boards know it, which all completions fit, or a count of the grids that may fit them.
 //
 //     find     the search for a grid's completions
 //     Found    what it has found: none, one, or the smallest two
 #![tactic(auto)]
 
-ghost use Rattle.std.specs.Prelude.{◌≡◌, true, List, ◌++◌, ℕ, ◌<◌, eqb};
-ghost use Rattle.clauses.specs.declared.ClauseSet.TheVariants.{Extended};
-ghost use Rattle.propagation.specs.Steps.{Closed};
+ghost use Rattle.std.specs.Prelude.{◌≡◌, List, [], ◌∷◌, ℕ, ◌≤◌, ◌<◌, eqb};
 ghost use Rattle.completions.specs.Completions.{completions};
-ghost use Rattle.completions.specs.Left.{left};
 ghost use Rattle.exploration.specs.Reports.{Reports};
-ghost use Rattle.exploration.specs.Search.{found_of, count_of, first_of, second_of, is_open, FirstOpen, digit_in, digits_in};
+ghost use Rattle.exploration.specs.Search.{found_of, count_of, first_of, second_of};
 
-use branching::Test;
-use clauses::ClauseSet;
-use propagation::close::{close_givens, close_true};
-use refutation::refuted;
-use worklist::acting::State;
+use boards::start::start;
+use boards::state::{Boards, Place};
+use branch_test::BranchTest;
+use counting::attempts::{Count, Stop};
+use digits::next_digit;
+use grid::legal::is_digit;
+use solved::is_solved;
+
+mod branch_test;
+mod digits;
+mod solved;
 
 // What a search has found: no completion, one, or several, of which these are the smallest two in byte order.
 #[derive(Drop)]
@@ -28,142 +31,141 @@ pub enum Found {
 }
 
 impl Found {
+    ghost use Rattle.exploration.specs.Search.{count_of, Adds};
+
     // Whether two are found, so that no more are looked for.
     fn is_several(&self) -> bool
         ensures { result ≡ eqb (count_of self.now) 2 }
     {
         matches!(self, Found::Several(_, _))
     }
-}
 
-// What is found in two lists, one after the other.
-#[tactic(auto, using(crate::proofs::Finding::nothing_first, crate::proofs::Finding::one_nothing, crate::proofs::Finding::one_one, crate::proofs::Finding::one_several, crate::proofs::Finding::several_first))]
-fn followed(found: Found, more: Found) -> Found
-    ensures { (a b : List (List ℕ)) → found ≡ found_of a → more ≡ found_of b
-        → result ≡ found_of (a ++ b) }
-{
-    match found {
-        Found::Nothing => more,
-        Found::One(first) => match more {
-            Found::Nothing => found,
-            Found::One(second) | Found::Several(second, _) => Found::Several(first, second),
-        },
-        Found::Several(_, _) => found,
-    }
-}
-
-// Whether a cell has no digit yet.
-fn is_open(marks: &[u8; 729], cell: usize) -> bool
-    requires { cell < 81 }
-    ensures { result ≡ is_open marks.now cell }
-{
-    (0..9).all(|d| marks[9 * cell + d] != 1)
-}
-
-// The first open cell, unless all have digits.
-fn first_open(marks: &[u8; 729]) -> Option<usize>
-    ensures { FirstOpen marks.now result }
-{
-    (0..81).find(|cell| is_open(marks, *cell))
-}
-
-// The digit byte that is marked in a cell, `1` where none is: it is asked of cells that are not open. Cells are plain numbers, as they are computed. It is
-// a loop: std has no law of `find` over a reversed range.
-#[tactic(auto, unfolding(clauses::specs::Models::pick, crate::specs::Search::digit_in))]
-fn digit_in(marks: &[u8; 729], cell: usize) -> u8
-    requires { cell < 81 }
-    ensures { result ≡ digit_in marks.now cell }
-{
-    let mut byte = b'1';
-    for d in 0..9 {
-        if marks[9 * cell + d] == 1 {
-            byte = b'1' + d as u8;
+    // One more, which comes after those before.
+    #[tactic(auto, using(crate::proofs::Finding::one_first, crate::proofs::Finding::one_second, crate::proofs::Finding::several_first))]
+    fn add(&mut self, grid: &[u8; 81])
+        ensures { Adds self.old self.new (grid.now ∷ []) }
+    {
+        match self {
+            Found::Nothing => *self = Found::One(*grid),
+            Found::One(first) => *self = Found::Several(*first, *grid),
+            Found::Several(_, _) => {}
         }
     }
-    byte
 }
 
-// The digit bytes that are marked.
-fn digits_in(marks: &[u8; 729]) -> [u8; 81]
-    ensures { result ≡ digits_in marks.now }
-{
-    std::array::from_fn(|cell| digit_in(marks, cell))
+// The first open cell of a grid, and the digits that a completion may have there, a bit for each.
+#[derive(Clone, Copy)]
+struct Open {
+    cell: usize,
+    digits: u32,
 }
 
-// What a search works with: the test of its states, and a guess, the marks that the test left last where it did not refute: a full grid, unless
-// the test was given up.
-// Each step asks for a closed state, as a contradiction leaves one half closed.
+// What a search works with: what is found so far, the one grid that may complete the grid, if so much is known, and the test of a branch.
 #[derive(Drop)]
 struct Search {
-    test: Test,
-    guess: [u8; 729],
+    found: Found,
+    only: Option<[u8; 81]>,
+    test: BranchTest,
 }
 
 impl Search {
-    // With no guess.
-    fn new() -> Search {
-        Search {
-            test: Test::new(),
-            guess: [0; 729],
+    ghost use Rattle.std.specs.Prelude.{true, IsOk, OnOk};
+    ghost use Rattle.exploration.specs.Search.{Adds, Bounds, ClosedBefore, MayHave, Fills};
+
+    // The digits that a completion may have in a cell, a bit for each.
+    #[inline]
+    fn digits_at(&self, boards: &Boards, cell: usize) -> u32
+        requires { cell < 81 }
+        ensures { (g : List ℕ) → Bounds self.now.only boards.now.words g → MayHave g cell result }
+    {
+        match &self.only {
+            Some(only) if is_digit(only[cell]) => 1 << (only[cell] - b'1') as u32,
+            Some(_) => 0,
+            None => boards.digits_at(cell / 27, (cell % 27) as u32),
         }
     }
 
-    // Whether a state is shown to leave nothing. Where it is not, the marks that the test makes of it become the guess.
-    fn refutes(&mut self, state: &State) -> bool
-        requires { Closed Extended state.now }
-        ensures { result ≡ true → left state.now.marks ≡ List.[] }
+    // Gives open cells their digits, in which one is left, up to the first in which more are left, or none.
+    fn fill(&self, grid: &mut [u8; 81], boards: &Boards, from: usize) -> Option<Open>
+        requires bounds { Bounds self.now.only boards.now.words grid.old }
+        requires closed { (from ≤ 81) × ClosedBefore grid.old from }
+        ensures { Fills grid.old grid.new result }
     {
-        let mut near = *state;
-        if refuted(&mut self.test, &mut near) {
-            return true;
+        for cell in from..81 {
+            if !is_digit(grid[cell]) {
+                let digits = self.digits_at(boards, cell);
+                let digit = digits.trailing_zeros();
+                if 9 <= digit || digits != 1 << digit {
+                    return Some(Open { cell, digits });
+                }
+                grid[cell] = b'1' + digit as u8;
+            }
         }
-        self.guess = near.marks;
-        false
+        None
     }
 
-    // All that a state leaves: each digit of the first open cell is tried, until two completions are found. Each branch has fewer cells open.
-    // Where the guess has the digit too, the branch is not tested.
-    fn explore(&mut self, state: &State) -> Found
-        requires { Closed Extended state.now }
-        ensures { result ≡ found_of (left state.now.marks) }
+    // All completions of a grid, after those that are found before: each digit of the first open cell is tried, until two are found. It is an error to
+    // enter too many branches that are not tested.
+    fn explore(&mut self, grid: &[u8; 81], boards: &Boards, from: usize) -> Result<(), Stop>
+        requires bounds { Bounds self.old.only boards.now.words grid.now }
+        requires closed { (from ≤ 81) × ClosedBefore grid.now from }
+        ensures found { OnOk result (Adds self.old.found self.new.found (completions grid.now)) }
+        ensures kept { (self.new.only ≡ self.old.only) × (self.new.test.tested ≡ self.old.test.tested) }
+        ensures ok { self.old.test.tested ≡ true → IsOk result }
     {
-        let Some(cell) = first_open(&state.marks) else {
-            return Found::One(digits_in(&state.marks));
+        let mut filled = *grid;
+        let Some(Open { cell, digits }) = self.fill(&mut filled, boards, from) else {
+            if is_solved(&filled) {
+                self.found.add(&filled);
+            }
+            return Ok(());
         };
-        let mut found = Found::Nothing;
-        for digit in 0..9 {
-            let place = 9 * cell + digit;
-            let mut next = *state;
-            let Ok(()) = close_true(&mut next, &mut self.test.list, ClauseSet::Extended, place)
-            else {
-                continue;
+        let mut digit = next_digit(digits, 0);
+        while digit < 9 {
+            let mut branch = filled;
+            branch[cell] = b'1' + digit as u8;
+            let mut next = *boards;
+            let place = Place {
+                digit: digit as usize,
+                band: cell / 27,
+                cell: (cell % 27) as u32,
             };
-            if self.guess[place] != 1 && self.refutes(&next) {
-                continue;
+            if self.test.enters(&mut next, place)? {
+                self.explore(&branch, &next, cell + 1)?;
+                if self.found.is_several() {
+                    return Ok(());
+                }
             }
-            let more = self.explore(&next);
-            found = followed(found, more);
-            if found.is_several() {
-                return found;
-            }
+            digit = next_digit(digits, digit + 1);
         }
-        found
+        Ok(())
     }
 }
 
-// The search, from what the givens leave.
-#[tactic(auto, using(completions::proofs::Left::start_none, completions::proofs::Left::start_left), unfolding(crate::specs::Search::found_of))]
+// The search, from the boards of the grid.
 fn completions_found(grid: &[u8; 81]) -> Found
     ensures { result ≡ found_of (completions grid.now) }
 {
-    let mut search = Search::new();
-    let Ok(state) = close_givens(ClauseSet::Extended, grid, &mut search.test.list) else {
-        return Found::Nothing;
+    let boards = start(grid);
+    let mut count = Count::new();
+    let only = match count.attempts(&boards, false) {
+        Ok(None) => {
+            return Found::Nothing;
+        }
+        Ok(only) => only,
+        Err(Stop) => None,
     };
-    if search.refutes(&state) {
-        return Found::Nothing;
+    let mut search = Search {
+        found: Found::Nothing,
+        only,
+        test: BranchTest::new(count),
+    };
+    if search.explore(grid, &boards, 0).is_err() {
+        search.found = Found::Nothing;
+        search.test.tested = true;
+        let _ = search.explore(grid, &boards, 0);
     }
-    search.explore(&state)
+    search.found
 }
 
 /// The legal completions of a grid, as far as the smallest two.

@@ -1,2 +1,0 @@
-mod Crowds
-mod Scans

@@ -1,4 +1,0 @@
-pub mod Finding
-mod Branches
-mod Exploring
-mod AllDigits
