@@ -10,7 +10,7 @@
  * call lists them, and the first is told.
  *
  * The library allocates nothing and keeps nothing between calls, so that threads may call it at
- * once. Of the C library it needs memcpy and memset alone. A call takes less than 1 MiB of stack.
+ * once. Of the C library it needs memcpy and memset alone. A call takes less than 256 kB of stack.
  */
 #ifndef GRADER_H
 #define GRADER_H

@@ -19,7 +19,7 @@
 //! Every call answers whatever it is lent, and returns. A refused call changes no buffer. Refusals are
 //! tested in the order in which a call lists them, and the first is told. An answer of no meaning
 //! panics: the library gives none, but a list that [`Finished::of_batch`] is lent may hold some. A
-//! call takes less than 1 MiB of stack.
+//! call takes less than 256 kB of stack.
 
 #![deny(missing_docs, unsafe_code)]
 
