@@ -176,6 +176,6 @@ family_numbers = record {
   columns = in_set Extended (F1 ∷ F2 ∷ F3 ∷ F4 ∷ F5 ∷ F6 ∷ []) F7 (F8 ∷ F9 ∷ []) 11745 11825 (made_of Extended) refl refl (omega arith);
   rows = in_set Extended (F1 ∷ F2 ∷ F3 ∷ F4 ∷ F5 ∷ F6 ∷ F7 ∷ []) F8 (F9 ∷ []) 11826 11906 (made_of Extended) refl refl (omega arith);
   boxes = in_set Extended (F1 ∷ F2 ∷ F3 ∷ F4 ∷ F5 ∷ F6 ∷ F7 ∷ F8 ∷ []) F9 [] 11907 11987 (made_of Extended) refl refl (omega arith);
-  last_of_set_1 = set_long Minimal;
-  last_of_set_2 = set_long Extended;
+  size_of_minimal = set_long Minimal;
+  size_of_extended = set_long Extended;
 }

@@ -11,7 +11,7 @@ pub record HasNumbers (s : ClauseSet) (family : List Clause) (first last : ℕ) 
   pub many : length family ≡ suc last - first
   pub entries : (n : ℕ) → first ≤ n → n ≤ last → get_or (clauses_of s) n [] ≡ get_or family (n - first) []
 
--- The numbers of the families in both sets, and in set 2 where it alone has them. The last one is the last of its set.
+-- The numbers of the families in both sets, and in set 2 where it alone has them; and how many clauses each set has.
 pub record FamilyNumbers : Type 0 where
   pub cells : (s : ClauseSet) → HasNumbers s F1 0 80
   pub column_pairs : (s : ClauseSet) → HasNumbers s F2 81 2996
@@ -22,8 +22,8 @@ pub record FamilyNumbers : Type 0 where
   pub columns : HasNumbers Extended F7 11745 11825
   pub rows : HasNumbers Extended F8 11826 11906
   pub boxes : HasNumbers Extended F9 11907 11987
-  pub last_of_set_1 : length (clauses_of Minimal) ≡ 8829
-  pub last_of_set_2 : length (clauses_of Extended) ≡ 11988
+  pub size_of_minimal : length (clauses_of Minimal) ≡ 8829
+  pub size_of_extended : length (clauses_of Extended) ≡ 11988
 
 -- A number of a set tells a shape that the set has, and the clause of the number is the clause of the shape. Each shape that a set has is told by a
 -- number of the set.

@@ -26,7 +26,7 @@ contents_check grid technique order =
 abbrev pub contents_rules : Bodies → List (Option Refusal)
 contents_rules bodies = bytes_rule bodies.grid ∷ technique_rule bodies.technique ∷ order_rules (order_in bodies.order)
 
--- the rules of a file: 31 to 34, the fault of its pieces, if they have one; else those of what its bodies say
+-- the rules of a file: 31 to 34, that its pieces have no fault, of which `read_pieces` promises just what they are; then those of what its bodies say
 abbrev pub file_rules : Result Bodies Refusal → List (Option Refusal)
 file_rules (Err fault) = Some fault ∷ []
 file_rules (Ok bodies) = contents_rules bodies
@@ -36,7 +36,8 @@ unfoldable pub read_rules : List ℕ → List ℕ → List ℤ → List (Option 
 read_rules file grid order = rule (length grid == 81) BufferLength ∷ rule (length order == 1458) OrderBuffer ∷ file_rules (pieces_of file)
 
 -- what a file sets that is read: it spells some bodies, and from them come the grid as it is in the file, the technique by its number, the ceiling, 1,062,882
--- where none is named, and the order, +1, −1 to −729 where none is named. A grid that is set is one, and an order has each literal once.
+-- where none is named, and the order, +1, −1 to −729 where none is named. The grid is one that the keyer's check accepts, and the order has each literal
+-- once.
 pub record Sets (file : List ℕ) (settings : Settings) (grid : List ℕ) (order : List ℤ) : Type 0 where
   pub bodies : Bodies
   pub spelled : Spells file bodies
