@@ -61,6 +61,11 @@ pub fn named() -> Vec<Grid> {
     grids
 }
 
+/// Grids that others have published, most of them as hard ones, each with one completion.
+pub fn published() -> Vec<Grid> {
+    lines(include_str!("../published-grids"))
+}
+
 /// Grids that cost a search much: few givens, no completion, or the first only after long.
 pub fn bad() -> Vec<Grid> {
     lines(include_str!("../bad-grids"))
@@ -186,7 +191,12 @@ impl Random {
 
     /// A grid with several completions: givens leave a grid with one until there is another.
     pub fn with_several(&mut self, blanks: usize) -> Grid {
-        let mut grid = self.with_one(blanks);
+        let grid = self.with_one(blanks);
+        self.thinned(grid)
+    }
+
+    /// The grid without some of its givens, the last of which leaves it several completions.
+    pub fn thinned(&mut self, mut grid: Grid) -> Grid {
         for cell in self.permutation::<CELLS>() {
             if smallest_two(&grid).len() == 2 {
                 break;
@@ -198,12 +208,25 @@ impl Random {
 
     /// A grid with no completion: one blank of a grid with one gets a wrong given.
     pub fn with_none(&mut self, blanks: usize) -> Grid {
-        let mut grid = self.with_one(blanks.max(1));
+        let grid = self.with_one(blanks.max(1));
+        self.spoiled(grid)
+    }
+
+    /// The grid, which has one completion and a blank, with a given that is not that completion's.
+    pub fn spoiled(&mut self, mut grid: Grid) -> Grid {
         let only = smallest_two(&grid)[0];
         let open: Vec<usize> = (0..CELLS).filter(|&cell| !is_given(grid[cell])).collect();
         let cell = open[self.below(open.len())];
         let step = 1 + self.below(8) as u8;
         grid[cell] = b'1' + (only[cell] - b'1' + step) % 9;
         grid
+    }
+
+    /// A grid with one completion and few givens: the one with the fewest of eight, each of which
+    /// needs all of its givens.
+    pub fn with_few(&mut self) -> Grid {
+        let minimal: [Grid; 8] = std::array::from_fn(|_| self.with_one(CELLS));
+        let givens = |grid: &Grid| grid.iter().filter(|&&byte| is_given(byte)).count();
+        minimal.into_iter().min_by_key(givens).unwrap_or(*G)
     }
 }
