@@ -1,7 +1,7 @@
 //! Grids to compare on: named ones, and generated ones with none, one or several completions. A
 //! small generator of random numbers makes every run the same.
 
-use crate::grid::{is_given, CELLS};
+use crate::grid::{is_given, CELLS, HOUSES};
 use crate::order::default_order;
 use crate::search::smallest_two;
 use std::sync::LazyLock;
@@ -208,17 +208,32 @@ impl Random {
 
     /// A grid with no completion: one blank of a grid with one gets a wrong given.
     pub fn with_none(&mut self, blanks: usize) -> Grid {
-        let grid = self.with_one(blanks.max(1));
-        self.spoiled(grid)
-    }
-
-    /// The grid, which has one completion and a blank, with a given that is not that completion's.
-    pub fn spoiled(&mut self, mut grid: Grid) -> Grid {
+        let mut grid = self.with_one(blanks.max(1));
         let only = smallest_two(&grid)[0];
         let open: Vec<usize> = (0..CELLS).filter(|&cell| !is_given(grid[cell])).collect();
         let cell = open[self.below(open.len())];
         let step = 1 + self.below(8) as u8;
         grid[cell] = b'1' + (only[cell] - b'1' + step) % 9;
+        grid
+    }
+
+    /// The grid, which has one completion, with a wrong given that no house of its cell has; as it is
+    /// where there is no such given.
+    pub fn spoiled(&mut self, mut grid: Grid) -> Grid {
+        let only = smallest_two(&grid)[0];
+        let open = (0..CELLS).filter(|&cell| !is_given(grid[cell]));
+        let wrong = open.flat_map(|cell| (b'1'..=b'9').map(move |digit| (cell, digit)));
+        let mut wrong: Vec<(usize, u8)> = wrong
+            .filter(|&(cell, digit)| {
+                let mut houses = HOUSES.iter().filter(|house| house.contains(&cell));
+                let has = |house: &[usize; 9]| house.iter().any(|&other| grid[other] == digit);
+                digit != only[cell] && !houses.any(has)
+            })
+            .collect();
+        self.shuffle(&mut wrong);
+        if let Some(&(cell, digit)) = wrong.first() {
+            grid[cell] = digit;
+        }
         grid
     }
 

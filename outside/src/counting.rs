@@ -44,7 +44,7 @@ impl Count {
 
     /// The only grid that may fit, or none. Where one more is enough, a grid that is found stops it.
     pub fn attempts(&mut self, boards: &Boards, enough: bool) -> Result<Option<Grid>, Stop> {
-        let mut nodes = 500;
+        let mut nodes = 1_500;
         for attempt in 0..20 {
             (self.left, self.attempt, self.enough) = (nodes, attempt, enough);
             let outcome = self.count(&mut boards.clone(), SHALLOW);
