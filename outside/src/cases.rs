@@ -1,7 +1,7 @@
 //! Grids to compare on: named ones, and generated ones with none, one or several completions. A
 //! small generator of random numbers makes every run the same.
 
-use crate::grid::{is_given, CELLS};
+use crate::grid::{is_given, CELLS, HOUSES};
 use crate::order::default_order;
 use crate::search::smallest_two;
 use std::sync::LazyLock;
@@ -59,6 +59,11 @@ pub fn named() -> Vec<Grid> {
     ];
     grids.extend(FIGURE_FIVE.into_iter().copied());
     grids
+}
+
+/// Grids that others have published, most of them as hard ones, each with one completion.
+pub fn published() -> Vec<Grid> {
+    lines(include_str!("../published-grids"))
 }
 
 /// Grids that cost a search much: few givens, no completion, or the first only after long.
@@ -186,7 +191,12 @@ impl Random {
 
     /// A grid with several completions: givens leave a grid with one until there is another.
     pub fn with_several(&mut self, blanks: usize) -> Grid {
-        let mut grid = self.with_one(blanks);
+        let grid = self.with_one(blanks);
+        self.thinned(grid)
+    }
+
+    /// The grid without some of its givens, the last of which leaves it several completions.
+    pub fn thinned(&mut self, mut grid: Grid) -> Grid {
         for cell in self.permutation::<CELLS>() {
             if smallest_two(&grid).len() == 2 {
                 break;
@@ -205,5 +215,33 @@ impl Random {
         let step = 1 + self.below(8) as u8;
         grid[cell] = b'1' + (only[cell] - b'1' + step) % 9;
         grid
+    }
+
+    /// The grid, which has one completion, with a wrong given that no house of its cell has; as it is
+    /// where there is no such given.
+    pub fn spoiled(&mut self, mut grid: Grid) -> Grid {
+        let only = smallest_two(&grid)[0];
+        let open = (0..CELLS).filter(|&cell| !is_given(grid[cell]));
+        let wrong = open.flat_map(|cell| (b'1'..=b'9').map(move |digit| (cell, digit)));
+        let mut wrong: Vec<(usize, u8)> = wrong
+            .filter(|&(cell, digit)| {
+                let mut houses = HOUSES.iter().filter(|house| house.contains(&cell));
+                let has = |house: &[usize; 9]| house.iter().any(|&other| grid[other] == digit);
+                digit != only[cell] && !houses.any(has)
+            })
+            .collect();
+        self.shuffle(&mut wrong);
+        if let Some(&(cell, digit)) = wrong.first() {
+            grid[cell] = digit;
+        }
+        grid
+    }
+
+    /// A grid with one completion and few givens: the one with the fewest of eight, each of which
+    /// needs all of its givens.
+    pub fn with_few(&mut self) -> Grid {
+        let minimal: [Grid; 8] = std::array::from_fn(|_| self.with_one(CELLS));
+        let givens = |grid: &Grid| grid.iter().filter(|&&byte| is_given(byte)).count();
+        minimal.into_iter().min_by_key(givens).unwrap_or(*G)
     }
 }

@@ -16,20 +16,28 @@
 //! - [`dimacs`]: a clause set with a grid's givens, for public solvers;
 //! - [`cases`]: named grids and generated ones;
 //! - [`packed`]: the C functions' answer word;
-//! - [`plain`], [`plain_job`], [`plain_search`]: fast clause, job, search and grading calls for the
-//!   bench, and [`simple_job`], the job call by a simpler loop;
+//! - [`plain`], [`plain_job`], [`plain_search`]: fast clause, job, search and grading calls by the
+//!   proved ones' steps, for the bench; the search stands on [`boards`], [`crowding`] and
+//!   [`counting`];
+//! - [`simple_job`], [`closure_search`], [`masks`]: the job call by a simpler loop, and two other
+//!   searches, for the bench too;
 //! - `proved` (feature `proved`): the proved library.
 
 pub mod batch;
+pub mod boards;
 pub mod cases;
 pub mod clauses;
 pub mod closure;
+pub mod closure_search;
+pub mod counting;
+pub mod crowding;
 pub mod dimacs;
 pub mod grading;
 pub mod grid;
 pub mod job;
 pub mod jobfile;
 pub mod listing;
+pub mod masks;
 pub mod order;
 pub mod packed;
 pub mod plain;

@@ -1,9 +1,10 @@
-//! Hunts for grids that cost the search most. It first measures `bad-grids` and `slow-grids` with
-//! the plain search. Then it climbs from turned grids of the collection, each climb among grids with as
-//! many completions as its start: a few givens change, and the change stays unless the search has to
-//! decide markedly fewer places. Arguments: the seconds to climb (default 60) and a seed (default 1).
-//! It prints the top of each climb that costs at least half as much as the worst of the collection
-//! with as many completions.
+//! Hunts for grids that cost the search most, by the nodes of the plain one. Arguments: the minutes to
+//! hunt (default 1) and a seed (default 1). It first measures `bad-grids` and `slow-grids`. Then it
+//! climbs from turned grids of the collection, each climb among grids with as many completions as its
+//! start: a few givens change, and the change stays unless the search takes markedly fewer nodes. The
+//! top of a climb is a find if it takes at least half as many nodes as the worst of the collection with
+//! as many completions. Finds are written to standard output as the collections have them, one grid a
+//! line; figures, to standard error.
 
 use reference::cases::{bad, slow, Grid, Random};
 use reference::grid::is_given;
@@ -14,49 +15,44 @@ use std::time::{Duration, Instant};
 /// Changes without a new top after which a climb ends.
 const PATIENCE: usize = 500;
 
-/// The part of the cost that a change may lose at the start of a climb, and what is left of it from
+/// The part of the nodes that a change may lose at the start of a climb, and what is left of it from
 /// change to change: small losses lead out of low tops.
 const SLACK: f64 = 0.1;
 const SLACK_LEFT: f64 = 0.997;
 
-/// Closures after which a search is left: a grid that takes as many is a find by itself.
-const MOST_CLOSURES: usize = 2_000_000;
+/// Nodes after which a search is left: a grid that takes as many is a find by itself.
+const MOST_NODES: usize = 200_000;
 
-/// A grid and what its search takes.
+/// A grid with the number of its completions and the nodes that its search takes.
 struct Cost {
     grid: Grid,
-    search: Search,
+    completions: usize,
+    nodes: usize,
 }
 
 impl Cost {
     fn of(grid: Grid) -> Cost {
-        let search = Search::within(&grid, MOST_CLOSURES);
-        Cost { grid, search }
+        let search = Search::within(&grid, MOST_NODES);
+        Cost {
+            grid,
+            completions: search.found.len(),
+            nodes: search.count.nodes,
+        }
     }
 
-    fn completions(&self) -> usize {
-        self.search.found.len()
-    }
-
-    /// The shortest of three times.
+    /// The shortest of five times.
     fn time(&self) -> Duration {
-        let times = [(); 3].map(|()| {
+        let times = [(); 5].map(|()| {
             let start = Instant::now();
-            Search::within(&self.grid, MOST_CLOSURES);
+            Search::within(&self.grid, MOST_NODES);
             start.elapsed()
         });
         times.into_iter().min().unwrap_or_default()
     }
 
-    fn print(&self, name: &str) {
-        println!(
-            "{name}: {} nodes, {} closures, {} places decided, {:.1} ms: {}",
-            self.search.nodes,
-            self.search.closures,
-            self.search.decided,
-            1e3 * self.time().as_secs_f64(),
-            String::from_utf8_lossy(&self.grid)
-        );
+    fn report(&self, name: &str) {
+        let (nodes, time) = (self.nodes, 1e3 * self.time().as_secs_f64());
+        eprintln!("{name}: {nodes} nodes, {time:.2} ms");
     }
 }
 
@@ -65,7 +61,7 @@ fn main() -> Result<(), String> {
         let number = word.parse();
         number.map_err(|error| format!("{word}: {error}"))
     });
-    let seconds = numbers.next().unwrap_or(Ok(60))?;
+    let minutes = numbers.next().unwrap_or(Ok(1))?;
     let mut random = Random(numbers.next().unwrap_or(Ok(1))?);
 
     let collection = [bad(), slow()].concat();
@@ -75,48 +71,52 @@ fn main() -> Result<(), String> {
         let of_kind = || {
             collection
                 .iter()
-                .filter(|cost| cost.completions() == completions)
+                .filter(|cost| cost.completions == completions)
         };
-        let Some(top) = of_kind().max_by_key(|cost| cost.search.decided) else {
-            continue;
-        };
-        worst[completions] = top.search.decided;
-        top.print(&format!(
-            "{} grids with {kind}, the worst",
-            of_kind().count()
-        ));
-    }
-
-    let end = Instant::now() + Duration::from_secs(seconds);
-    while Instant::now() < end {
-        let known = collection[random.below(collection.len())].grid;
-        let top = climb(&mut random, &known, end);
-        if 2 * top.search.decided >= worst[top.completions()] {
-            top.print(&format!("found, {} completions", top.completions()));
+        if let Some(top) = of_kind().max_by_key(|cost| cost.nodes) {
+            worst[completions] = top.nodes;
+            top.report(&format!(
+                "{} grids with {kind}, the worst",
+                of_kind().count()
+            ));
         }
     }
+
+    let end = Instant::now() + Duration::from_secs(60 * minutes);
+    let (mut climbs, mut finds, mut grids) = (0, 0, 0);
+    while Instant::now() < end {
+        let known = collection[random.below(collection.len())].grid;
+        let top = climb(&mut random, &known, end, &mut grids);
+        climbs += 1;
+        if 2 * top.nodes >= worst[top.completions] {
+            finds += 1;
+            println!("{}", String::from_utf8_lossy(&top.grid));
+            top.report(&format!("found, {} completions", top.completions));
+        }
+    }
+    eprintln!("{climbs} climbs over {grids} grids, {finds} finds");
     Ok(())
 }
 
-fn climb(random: &mut Random, known: &Grid, end: Instant) -> Cost {
+fn climb(random: &mut Random, known: &Grid, end: Instant, grids: &mut usize) -> Cost {
     let mut top = Cost::of(random.turned(known));
-    let (mut grid, mut decided) = (top.grid, top.search.decided);
+    let (mut grid, mut nodes) = (top.grid, top.nodes);
     let (mut slack, mut without_gain) = (SLACK, 0);
-    while without_gain < PATIENCE && top.search.closures < MOST_CLOSURES && Instant::now() < end {
+    while without_gain < PATIENCE && top.nodes < MOST_NODES && Instant::now() < end {
         let mut changed = grid;
         for _ in 0..=random.below(3) {
             change(random, &mut changed);
         }
         let next = Cost::of(changed);
+        *grids += 1;
         slack *= SLACK_LEFT;
         without_gain += 1;
-        if next.completions() != top.completions()
-            || (next.search.decided as f64) < decided as f64 * (1.0 - slack)
-        {
+        let least = nodes as f64 * (1.0 - slack);
+        if next.completions != top.completions || (next.nodes as f64) < least {
             continue;
         }
-        (grid, decided) = (next.grid, next.search.decided);
-        if decided > top.search.decided {
+        (grid, nodes) = (next.grid, next.nodes);
+        if nodes > top.nodes {
             top = next;
             without_gain = 0;
         }

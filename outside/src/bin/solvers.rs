@@ -7,7 +7,7 @@
 use reference::cases::{bad, named, slow, Grid, Random};
 use reference::dimacs::{blocking, read_model, write};
 use reference::grid::is_completion;
-use reference::plain_search::Search;
+use reference::plain_search;
 use reference::search::smallest_two;
 use std::path::Path;
 use std::process::{Command, ExitCode, Stdio};
@@ -67,7 +67,7 @@ fn searched() -> Vec<(Grid, Vec<Grid>)> {
     let by_reference = grids.into_iter().map(|grid| (grid, smallest_two(&grid)));
     let by_plain = slow()
         .into_iter()
-        .map(|grid| (grid, Search::of(&grid).found));
+        .map(|grid| (grid, plain_search::smallest_two(&grid)));
     by_reference.chain(by_plain).collect()
 }
 
