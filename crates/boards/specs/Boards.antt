@@ -24,7 +24,8 @@ HasAll b digit band cells = (cell : ℕ) → cell < 27 → On cells cell → Has
 -- in the other bands b has the digit in none of these cells
 abbrev pub Pointed : List ℕ → ℕ → ℕ → ℕ → Type 0
 Pointed b digit band cells =
-    (other cell : ℕ) → other < 3 → cell < 27 → ¬ (other ≡ band) → Has b digit other cell → ¬ On cells cell
+    (other cell : ℕ) → other < 3 → cell < 27 → ¬ (other ≡ band) → Has b digit other cell
+    → ¬ On cells cell
 
 -- the word of a digit in a band
 abbrev pub word_of : List ℕ → ℕ → ℕ → ℕ

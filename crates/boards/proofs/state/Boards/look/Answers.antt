@@ -29,7 +29,8 @@ returns-then-left-eq0 c b f =
     let j = c.args.band in
     let w = in_row b f.legal d c.requires.0 j 0 c.requires.1 (omega arith) in
     let covers =
-    left_covers c.args.self.now.words b d j c.thirds_of-thirds.result c.some_way.result c.requires.0 c.requires.1 f c.thirds_of-thirds.ensures c.some_way.ensures in
+    left_covers c.args.self.now.words b d j c.thirds_of-thirds.result c.some_way.result c.requires.0 c.requires.1 f
+    c.thirds_of-thirds.ensures c.some_way.ensures in
     none_on (9 * 0 + w.0) (subst (λ x. On x (9 * 0 + w.0)) c.if-left-eq0.true (covers (9 * 0 + w.0) (omega (arith, w.1)) w.2))
 
 pub returns : goal.returns
