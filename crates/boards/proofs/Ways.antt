@@ -42,7 +42,8 @@ module _ (b : List ℕ) (legal : Legal [] b) (d j : ℕ) (few : d < 9) (band : j
 
   -- the digit stands in no other cell of the row
   same_cell : (r k : ℕ) (w : (m : ℕ) × (m < 9) × Has b d j (9 * r + m)) → r < 3 → k < 9 → Has b d j (9 * r + k) → k ≡ w.0
-  same_cell r k w h l y = omega (arith, w.1, same_row b legal d few j (9 * r + k) (9 * r + w.0) band (omega arith) (omega (arith, w.1)) (omega (arith, w.1)) y w.2)
+  same_cell r k w h l y =
+      omega (arith, w.1, same_row b legal d few j (9 * r + k) (9 * r + w.0) band (omega arith) (omega (arith, w.1)) (omega (arith, w.1)) y w.2)
 
   third_is : (r k : ℕ) → r < 3 → k < 9 → Has b d j (9 * r + k) → third way r ≡ k / 3
   unfolding way

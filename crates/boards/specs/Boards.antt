@@ -1,4 +1,4 @@
--- What boards say of full grids. Cell i of band j is cell 27 j + i of the grid; a word has a bit for each of the 27 cells of a band.
+-- What boards say of full grids. A band is three rows, a word has a bit for each of its 27 cells.
 use Rattle.std.specs.Prelude.{◌≡◌, List, [], ℕ, ◌+◌, ◌*◌, ◌/◌, ◌%◌, ◌<◌, get_or, Option, Some, Result, Ok, Err}
 use Rattle.std.specs.Int.{bit_at}
 use Rattle.grid.specs.Grid.{byte}
@@ -9,26 +9,32 @@ use Rattle.boards.specs.declared.state.Clash.{Clash}
 abbrev pub On : ℕ → ℕ → Type 0
 On n i = bit_at n i ≡ 1
 
--- the full grid b has digit d + 1 in cell i of band j
+-- the full grid b has a digit in a cell of a band; digits are counted from 0, as bands and cells are
 abbrev pub Has : List ℕ → ℕ → ℕ → ℕ → Type 0
-Has b d j i = byte b (27 * j + i) ≡ 49 + d
+Has b digit band cell = byte b (27 * band + cell) ≡ 49 + digit
 
--- among the cells of a word are all in which b has digit d + 1 in band j
+-- among the cells of a word are all of a band in which b has the digit
 abbrev pub Covers : List ℕ → ℕ → ℕ → ℕ → Type 0
-Covers b d j word = (i : ℕ) → i < 27 → Has b d j i → On word i
+Covers b digit band word = (cell : ℕ) → cell < 27 → Has b digit band cell → On word cell
 
 -- b has the digit in each of these cells of the band
 abbrev pub HasAll : List ℕ → ℕ → ℕ → ℕ → Type 0
-HasAll b d j cells = (i : ℕ) → i < 27 → On cells i → Has b d j i
+HasAll b digit band cells = (cell : ℕ) → cell < 27 → On cells cell → Has b digit band cell
 
 -- in the other bands b has the digit in none of these cells
 abbrev pub Pointed : List ℕ → ℕ → ℕ → ℕ → Type 0
-Pointed b d j cells = (k i : ℕ) → k < 3 → i < 27 → ¬ (k ≡ j) → Has b d k i → ¬ On cells i
+Pointed b digit band cells =
+    (other cell : ℕ) → other < 3 → cell < 27 → ¬ (other ≡ band) → Has b digit other cell
+    → ¬ On cells cell
 
--- A legal full grid b fits the words of boards: each of its digits may stand where it does. Word 4 d + j is that of digit d + 1 in band j.
+-- the word of a digit in a band
+abbrev pub word_of : List ℕ → ℕ → ℕ → ℕ
+word_of words digit band = get_or words (4 * digit + band) 0
+
+-- A legal full grid b fits the words of boards: each of its digits may stand where it does.
 pub record Fits (words b : List ℕ) : Type 0 where
   pub legal : Legal [] b
-  pub covered : (d j : ℕ) → d < 9 → j < 3 → Covers b d j (get_or words (4 * d + j) 0)
+  pub covered : (digit band : ℕ) → digit < 9 → band < 3 → Covers b digit band (word_of words digit band)
 
 -- what fits still fits
 abbrev pub Keeps : List ℕ → List ℕ → Type 0

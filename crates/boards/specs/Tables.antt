@@ -18,11 +18,14 @@ takes x i = eqb (i % 9 / 3) (third x (i / 9))
 
 -- they are a way through the band: no two of them are in one box
 abbrev pub is_way : ℕ → Bool
-is_way x = not (eqb (third x 0) (third x 1)) && (not (eqb (third x 0) (third x 2)) && not (eqb (third x 1) (third x 2)))
+is_way x =
+    not (eqb (third x 0) (third x 1))
+    && (not (eqb (third x 0) (third x 2)) && not (eqb (third x 1) (third x 2)))
 
 -- the way is left: each of its thirds has a place, by bit 3 t + r of s for third t of row r
 abbrev pub is_left : ℕ → ℕ → Bool
-is_left s x = is_way x && (on s (3 * third x 0) && (on s (3 * third x 1 + 1) && on s (3 * third x 2 + 2)))
+is_left s x =
+    is_way x && (on s (3 * third x 0) && (on s (3 * third x 1 + 1) && on s (3 * third x 2 + 2)))
 
 -- the cells of each way that is left are in the entry
 abbrev pub some_way_rule : ℕ → ℕ → Bool

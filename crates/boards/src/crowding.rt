@@ -8,51 +8,82 @@ ghost use Rattle.boards.specs.Boards.{Empty};
 use super::state::Boards;
 use grid::house_cell;
 
-// Digits that have fewer cells than they are, of nine with the cells of each, a bit for each digit and cell. Each digit in turn gets a cell: a free one, or
-// that of a digit which can move to another. Where all cells that it so comes to are taken, their digits and it are such digits.
-fn crowd(cells: &[u32; 9]) -> Option<u32> {
-    let mut owner = [9usize; 9];
-    let mut free = 511u32;
-    for d in 0..9 {
-        let mut from = [d; 9];
-        let mut reached = cells[d];
+// Which digit has which of nine cells, and the cells that are free, a bit for each. Digits and cells are counted from 0.
+#[derive(Drop)]
+struct Matching {
+    owner: [usize; 9],
+    free: u32,
+}
+
+// How a digit comes to a free cell: the cell, and for each cell that is reached the digit that would move there.
+#[derive(Drop)]
+struct Way {
+    end: usize,
+    mover: [usize; 9],
+    ghost below: { end < 9 },
+}
+
+impl Matching {
+    // How a digit comes to a cell: a free one, or that of a digit which can move to another. Where all cells that are reached are taken, their digits and
+    // it are more than these cells.
+    #[tactic(auto, using(crate::proofs::Bits::fewer))]
+    fn reach(&self, cells: &[u32; 9], digit: usize) -> Result<Way, u32>
+        requires { digit < 9 }
+    {
+        let mut mover = [digit; 9];
+        let mut reached = cells[digit];
         let mut fresh = reached;
-        let mut digits = 1u32 << d;
+        let mut digits = 1u32 << digit as u32;
         for _ in 0..10 {
-            if reached & free != 0 {
+            if reached & self.free != 0 {
                 break;
             }
             if fresh == 0 {
-                return Some(digits);
+                return Err(digits);
             }
-            let k = fresh.trailing_zeros() as usize % 9;
+            let owner = self.owner[fresh.trailing_zeros() as usize % 9] % 9;
             fresh &= fresh - 1;
-            let e = owner[k] % 9;
-            digits |= 1 << e;
-            let mut more = cells[e] & !reached;
+            digits |= 1 << owner as u32;
+            let mut more = cells[owner] & !reached;
             reached |= more;
             fresh |= more;
-            for _ in 0..9 {
-                if more == 0 {
-                    break;
-                }
-                from[more.trailing_zeros() as usize % 9] = e;
+            while more != 0 {
+                mover[more.trailing_zeros() as usize % 9] = owner;
                 more &= more - 1;
             }
         }
-        let mut k = (reached & free).trailing_zeros() as usize % 9;
-        free &= !(1 << k);
+        Ok(Way {
+            end: (reached & self.free).trailing_zeros() as usize % 9,
+            mover,
+        })
+    }
+
+    // Each digit on the way moves on, so that the first of them has a cell too.
+    fn give(&mut self, digit: usize, way: &Way) {
+        let mut cell = way.end;
+        self.free &= !(1 << cell as u32);
         for _ in 0..9 {
-            let e = from[k] % 9;
-            owner[k] = e;
-            if e == d {
-                break;
+            let mover = way.mover[cell];
+            let before = (0..9).find(|k| *k != cell && self.owner[*k] == mover);
+            self.owner[cell] = mover;
+            match before {
+                Some(other) if mover != digit => cell = other % 9,
+                _ => break,
             }
-            // the cell that it owned until now
-            let Some(other) = (0..9).find(|m| *m != k && owner[*m] == e) else {
-                break;
-            };
-            k = other % 9;
+        }
+    }
+}
+
+// Digits that have fewer cells than they are, a bit for each, of nine with the cells of each: they are found where a digit comes to no cell.
+fn crowd(cells: &[u32; 9]) -> Option<u32> {
+    let mut matching = Matching {
+        owner: [9; 9],
+        free: 511,
+    };
+    for digit in 0..9 {
+        match matching.reach(cells, digit) {
+            Ok(way) => matching.give(digit, &way),
+            Err(digits) => return Some(digits),
         }
     }
     None

@@ -52,44 +52,45 @@ impl Boards {
     // Looks at the places of a digit in a band. Those in no way through the band go; a column that is the only one of its box goes in the other bands;
     // and where the digit is found in a cell, no other stands there.
     #[inline]
-    fn look(&mut self, d: usize, j: usize) -> Result<(), Clash>
-        requires { (d < 9) × (j < 3) }
+    fn look(&mut self, digit: usize, band: usize) -> Result<(), Clash>
+        requires { (digit < 9) × (band < 3) }
         ensures { StepsTo self.old.words self.new.words result }
     {
-        let word = self.words[4 * d + j];
+        let at = 4 * digit + band;
+        let word = self.words[at];
         let thirds = thirds_of(word);
         let left = word & some_way(thirds);
         if left == 0 {
-            return Err(Clash { at: 4 * d + j });
+            return Err(Clash { at });
         }
         let single = singles(columns_of(left));
-        self.point(d, j, left, single);
-        let alone = left & every_way(thirds) & single & self.open[j];
+        self.point(digit, band, left, single);
+        let alone = left & every_way(thirds) & single & self.open[band];
         if alone != 0 {
-            self.fix(d, j, alone);
+            self.fix(digit, band, alone);
         }
-        self.seen[4 * d + j] = left;
+        self.seen[at] = left;
         Ok(())
     }
 
     // Looks at a cell: where one digit is left, it is placed.
     #[inline]
-    fn look_at_cell(&mut self, j: usize, i: u32) -> Result<(), Clash>
-        requires { (j < 3) × (i < 27) }
+    fn look_at_cell(&mut self, band: usize, cell: u32) -> Result<(), Clash>
+        requires { (band < 3) × (cell < 27) }
         ensures { StepsTo self.old.words self.new.words result }
     {
-        let digits = self.digits_at(j, i);
+        let digits = self.digits_at(band, cell);
         if digits == 0 {
             return Err(Clash {
-                at: 36 + 27 * j + i as usize,
+                at: 36 + 27 * band + cell as usize,
             });
         }
         let d = digits.trailing_zeros();
         if d < 9 && digits == 1 << d {
             self.place(Place {
                 digit: d as usize,
-                band: j,
-                cell: i,
+                band,
+                cell,
             });
         }
         Ok(())
@@ -98,8 +99,8 @@ impl Boards {
     // Looks at the words of some digits in a band.
     #[tactic(auto, using(crate::proofs::Bits::fewer))]
     #[inline]
-    fn look_at_digits(&mut self, j: usize, digits: u32) -> Result<(), Clash>
-        requires { j < 3 }
+    fn look_at_digits(&mut self, band: usize, digits: u32) -> Result<(), Clash>
+        requires { band < 3 }
         ensures { StepsTo self.old.words self.new.words result }
     {
         let mut digits = digits;
@@ -107,7 +108,7 @@ impl Boards {
             let d = digits.trailing_zeros() as usize;
             digits &= digits - 1;
             if d < 9 {
-                self.look(d, j)?;
+                self.look(d, band)?;
             }
         }
         Ok(())
@@ -123,8 +124,8 @@ impl Boards {
             if digits[0] | digits[1] | digits[2] == 0 {
                 return Ok(());
             }
-            for j in 0..3 {
-                self.look_at_digits(j, digits[j])?;
+            for band in 0..3 {
+                self.look_at_digits(band, digits[band])?;
             }
         }
         Ok(())
@@ -150,8 +151,8 @@ impl Boards {
     // Looks at the cells of a band that have no digit left, and at those where a digit has come to be the only one.
     #[tactic(auto, using(crate::proofs::Bits::fewer))]
     #[inline]
-    fn look_at_cells(&mut self, j: usize, cells: u32) -> Result<(), Clash>
-        requires { j < 3 }
+    fn look_at_cells(&mut self, band: usize, cells: u32) -> Result<(), Clash>
+        requires { band < 3 }
         ensures { StepsTo self.old.words self.new.words result }
     {
         let mut cells = cells;
@@ -159,7 +160,7 @@ impl Boards {
             let i = cells.trailing_zeros();
             cells &= cells - 1;
             if i < 27 {
-                self.look_at_cell(j, i)?;
+                self.look_at_cell(band, i)?;
             }
         }
         Ok(())
@@ -176,10 +177,10 @@ impl Boards {
             self.look_at_words()?;
             let counts = self.counts();
             let mut any = 0;
-            for j in 0..3 {
-                let cells = (!counts.two[j] & self.open[j]) | (ALL & !counts.one[j]);
+            for band in 0..3 {
+                let cells = (!counts.two[band] & self.open[band]) | (ALL & !counts.one[band]);
                 any |= cells;
-                self.look_at_cells(j, cells)?;
+                self.look_at_cells(band, cells)?;
             }
             if any == 0 {
                 return Ok(counts);

@@ -1,5 +1,5 @@
 // The boards, and a digit placed in a cell or struck from it.
-ghost use Rattle.std.specs.Prelude.{◌≡◌, List, ℕ, ◌+◌, ◌*◌, ◌<◌, get_or};
+ghost use Rattle.std.specs.Prelude.{◌≡◌, List, ℕ, ◌<◌};
 
 use super::tables::placed;
 
@@ -24,7 +24,7 @@ pub struct Place {
     ghost cell_below: { cell < 27 },
 }
 
-// Word 4 d + j has the cells of band j that digit d + 1 may stand in; a fourth word is not used, so that those of a digit are four lanes. What was
+// Word 4 d + j has the cells of band j that digit d may stand in; a fourth word is not used, so that those of a digit are four lanes. What was
 // looked at last, and which cells no digit was found alone in, only says what to look at next: of that nothing is promised.
 #[derive(Clone, Copy)]
 pub struct Boards {
@@ -34,7 +34,7 @@ pub struct Boards {
 }
 
 impl Boards {
-    ghost use Rattle.boards.specs.Boards.{On, Has, HasAll, Covers, Pointed, Fits};
+    ghost use Rattle.boards.specs.Boards.{On, Has, HasAll, Covers, Pointed, word_of, Fits};
 
     // With the digit in its cell.
     #[inline]
@@ -56,43 +56,41 @@ impl Boards {
 
     // With the digit in some cells of a band: no other stands there.
     #[inline]
-    pub fn fix(&mut self, d: usize, j: usize, cells: u32)
-        requires { (d < 9) × (j < 3) }
-        ensures { (b : List ℕ) → Fits self.old.words b →
-            ((i : ℕ) → i < 27 → On cells i → Has b d j i) →
+    pub fn fix(&mut self, digit: usize, band: usize, cells: u32)
+        requires { (digit < 9) × (band < 3) }
+        ensures { (b : List ℕ) → Fits self.old.words b → HasAll b digit band cells →
             Fits self.new.words b }
     {
-        let own = self.words[4 * d + j];
+        let own = self.words[4 * digit + band];
         for e in 0..9 {
-            self.words[4 * e + j] &= !cells;
+            self.words[4 * e + band] &= !cells;
         }
-        self.words[4 * d + j] = own;
-        self.open[j] &= !cells;
+        self.words[4 * digit + band] = own;
+        self.open[band] &= !cells;
     }
 
     // With the digit in some cells of a band, and in the other bands not in some columns.
     #[inline]
-    pub fn point(&mut self, d: usize, j: usize, cells: u32, columns: u32)
-        requires { (d < 9) × (j < 3) }
-        ensures { (b : List ℕ) → Fits self.old.words b → Covers b d j cells →
-            ((k i : ℕ) → k < 3 → i < 27 → ¬ (k ≡ j) → Has b d k i → ¬ On columns i) →
-            Fits self.new.words b }
+    pub fn point(&mut self, digit: usize, band: usize, cells: u32, columns: u32)
+        requires { (digit < 9) × (band < 3) }
+        ensures { (b : List ℕ) → Fits self.old.words b → Covers b digit band cells →
+            Pointed b digit band columns → Fits self.new.words b }
     {
         for k in 0..3 {
-            self.words[4 * d + k] &= !columns;
+            self.words[4 * digit + k] &= !columns;
         }
-        self.words[4 * d + j] = cells;
+        self.words[4 * digit + band] = cells;
     }
 
     // The digits that a cell may have, a bit for each.
     #[inline]
-    pub fn digits_at(&self, j: usize, i: u32) -> u32
-        requires { (j < 3) × (i < 27) }
-        ensures { (d : ℕ) → d < 9 → On (get_or self.now.words (4 * d + j) 0) i → On result d }
+    pub fn digits_at(&self, band: usize, cell: u32) -> u32
+        requires { (band < 3) × (cell < 27) }
+        ensures { (d : ℕ) → d < 9 → On (word_of self.now.words d band) cell → On result d }
     {
         let mut digits = 0u32;
         for d in 0..9u32 {
-            digits |= (self.words[4 * (d as usize) + j] >> i & 1) << d;
+            digits |= (self.words[4 * (d as usize) + band] >> cell & 1) << d;
         }
         digits
     }

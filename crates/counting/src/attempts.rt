@@ -15,7 +15,8 @@ pub struct Stop;
 
 // What is found with a place and without it; two are too many.
 fn joined(found: Option<[u8; 81]>, more: Option<[u8; 81]>) -> Result<Option<[u8; 81]>, Stop>
-    ensures { IfOk result (λ only. (b : List ℕ) → (found ≡ Some b) ⊎ (more ≡ Some b) → only ≡ Some b) }
+    ensures { IfOk result (λ only.
+        (b : List ℕ) → (found ≡ Some b) ⊎ (more ≡ Some b) → only ≡ Some b) }
 {
     match more {
         None => Ok(found),

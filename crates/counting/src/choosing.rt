@@ -52,15 +52,15 @@ impl Choice {
 
 // How many candidates for a digit see a cell, those in cells with two digits five times.
 #[inline]
-fn seen_by(boards: &Boards, pairs: &[u32; 4], d: usize, j: usize, i: u32) -> u32
-    requires { (d < 9) × (j < 3) × (i < 27) }
+fn seen_by(boards: &Boards, pairs: &[u32; 4], digit: usize, band: usize, cell: u32) -> u32
+    requires { (digit < 9) × (band < 3) × (cell < 27) }
     ensures { result ≤ 480 }
 {
-    let near = ALL & !placed(i as usize);
-    let column = COLUMN << (i % 9);
+    let near = ALL & !placed(cell as usize);
+    let column = COLUMN << (cell % 9);
     let mut sum = 0u32;
     for k in 0..3 {
-        let peers = boards.words[4 * d + k] & if k == j { near } else { column };
+        let peers = boards.words[4 * digit + k] & if k == band { near } else { column };
         sum += peers.count_ones() + 4 * (peers & pairs[k]).count_ones();
     }
     sum

@@ -64,7 +64,8 @@ pub loop-cell-preserved : goal.loop-cell-preserved
 loop-cell-preserved c = elim c.if-is_digit.branch [
   | then-is_digit w ↦ (
       let t = bounds _ (holds (sym c.is_digit.ensures ∙ w.if-is_digit.true)) in
-      rw w.words-is (simp length-set c.loop-cell.invariant.0, one_more c.args.grid.now c.loop-cell.words c.loop-cell.cell c.loop-cell.invariant.0 c.loop-cell-test.true t.0 t.1 c.loop-cell.invariant.1)
+      let i = c.loop-cell.invariant in
+      rw w.words-is (simp length-set i.0, one_more c.args.grid.now c.loop-cell.words c.loop-cell.cell i.0 c.loop-cell-test.true t.0 t.1 i.1)
       )
   | else-is_digit w ↦ rw w.words-is c.loop-cell.invariant
 ]

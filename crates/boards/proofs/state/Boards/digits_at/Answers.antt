@@ -13,12 +13,12 @@ use Rattle.boards.proofs.state.Boards.digits_at.Goals as goal
 pub loop-d-preserved : goal.loop-d-preserved
 loop-d-preserved c =
     let d : ℕ = c.loop-d.d in
-    let word : ℕ → ℕ = λ e. get_or c.args.self.now.words (4 * e + c.args.j) 0 in (
+    let word : ℕ → ℕ = λ e. get_or c.args.self.now.words (4 * e + c.args.band) 0 in (
       omega arith,
       λ e h y. elim (ℕ_discrete e d) [
         | yes q ↦ (
-            let set : On (word d) c.args.i = subst (λ x. On (word x) c.args.i) q y in
-            rw (q, shr_and_one (word d) c.args.i, set) (bit_at_set_same w32 c.loop-d.digits d (omega arith))
+            let set : On (word d) c.args.cell = subst (λ x. On (word x) c.args.cell) q y in
+            rw (q, shr_and_one (word d) c.args.cell, set) (bit_at_set_same w32 c.loop-d.digits d (omega arith))
             )
         | no n ↦ on_left _ _ e (c.loop-d.invariant.1 e (omega arith) y)
       ],

@@ -5,4 +5,4 @@ use Rattle.boards.specs.Boards.{On}
 use Rattle.boards.proofs.state.Boards.digits_at.Given as goal
 
 abbrev pub invariant-loop-d : goal.invariant-loop-d
-invariant-loop-d l = (l.d ≤ 9) × ((e : ℕ) → e < l.d → On (get_or l.self.words (4 * e + l.j) 0) l.i → On l.digits e)
+invariant-loop-d l = (l.d ≤ 9) × ((e : ℕ) → e < l.d → On (get_or l.self.words (4 * e + l.band) 0) l.cell → On l.digits e)

@@ -7,8 +7,8 @@ use Rattle.boards.proofs.state.Boards.fix.Goals as goal
 
 pub loop-e-preserved : goal.loop-e-preserved
 loop-e-preserved c b f all =
-    let d = c.args.d in
-    let j = c.args.j in
+    let d = c.args.digit in
+    let j = c.args.band in
     let e = c.loop-e.e in
     let g = c.loop-e.invariant b f all in
     write_other c.loop-e.self.words b e j _ (omega arith) (omega arith) c.requires.1 d j g
@@ -17,5 +17,5 @@ loop-e-preserved c b f all =
 
 pub returns : goal.returns
 returns c b f all =
-    write_last c.loop-e.self.words b c.args.d c.args.j _ (omega arith) c.requires.0 c.requires.1 (c.loop-e.invariant b f all)
-    (f.covered c.args.d c.args.j c.requires.0 c.requires.1)
+    write_last c.loop-e.self.words b c.args.digit c.args.band _ (omega arith) c.requires.0 c.requires.1 (c.loop-e.invariant b f all)
+    (f.covered c.args.digit c.args.band c.requires.0 c.requires.1)

@@ -6,4 +6,4 @@ use Rattle.boards.proofs.Writes.{FitsAt, But}
 use Rattle.boards.proofs.state.Boards.fix.Given as goal
 
 abbrev pub invariant-loop-e : goal.invariant-loop-e
-invariant-loop-e l = (b : List ℕ) → Fits l.fn.self.words b → HasAll b l.d l.j l.cells → FitsAt (But l.d l.j) l.self.words b
+invariant-loop-e l = (b : List ℕ) → Fits l.fn.self.words b → HasAll b l.digit l.band l.cells → FitsAt (But l.digit l.band) l.self.words b

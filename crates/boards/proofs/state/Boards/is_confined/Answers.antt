@@ -30,7 +30,8 @@ loop-k-preserved c =
       | else-digits_at-digits-ne0 w ↦ (
         omega arith,
         omega (arith, w.cells-is, i.1),
-        λ b f. rw w.cells-is (none_counted c.args.digits b c.args.house c.requires c.args.self.now.words f c.loop-k.k c.house_cell-cell.result c.digits_at.result
+        λ b f. rw w.cells-is
+            (none_counted c.args.digits b c.args.house c.requires c.args.self.now.words f c.loop-k.k c.house_cell-cell.result c.digits_at.result
             c.loop-k-test.true c.house_cell-cell.ensures c.digits_at.ensures w.if-digits_at-digits-ne0.false c.loop-k.cells (i.2 b f)),
       )
     ]

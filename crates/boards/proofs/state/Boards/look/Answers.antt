@@ -25,17 +25,18 @@ left_covers words b d j s cells few band f thirds rule i h y =
 
 pub returns-then-left-eq0 : goal.returns-then-left-eq0
 returns-then-left-eq0 c b f =
-    let d = c.args.d in
-    let j = c.args.j in
+    let d = c.args.digit in
+    let j = c.args.band in
     let w = in_row b f.legal d c.requires.0 j 0 c.requires.1 (omega arith) in
     let covers =
-    left_covers c.args.self.now.words b d j c.thirds_of-thirds.result c.some_way.result c.requires.0 c.requires.1 f c.thirds_of-thirds.ensures c.some_way.ensures in
+    left_covers c.args.self.now.words b d j c.thirds_of-thirds.result c.some_way.result c.requires.0 c.requires.1 f
+    c.thirds_of-thirds.ensures c.some_way.ensures in
     none_on (9 * 0 + w.0) (subst (λ x. On x (9 * 0 + w.0)) c.if-left-eq0.true (covers (9 * 0 + w.0) (omega (arith, w.1)) w.2))
 
 pub returns : goal.returns
 returns c b f =
-    let d = c.args.d in
-    let j = c.args.j in
+    let d = c.args.digit in
+    let j = c.args.band in
     let few = c.requires.0 in
     let band = c.requires.1 in
     let word = get_or c.args.self.now.words (4 * d + j) 0 in

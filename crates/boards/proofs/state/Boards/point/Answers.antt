@@ -7,8 +7,8 @@ use Rattle.boards.proofs.state.Boards.point.Goals as goal
 
 pub loop-k-preserved : goal.loop-k-preserved
 loop-k-preserved c b f away =
-    let d = c.args.d in
-    let j = c.args.j in
+    let d = c.args.digit in
+    let j = c.args.band in
     let k = c.loop-k.k in
     let g = c.loop-k.invariant b f away in
     write_other c.loop-k.self.words b d k _ (omega arith) c.requires.0 (omega arith) d j g
@@ -17,4 +17,4 @@ loop-k-preserved c b f away =
 
 pub returns : goal.returns
 returns c b f covers away =
-    write_last c.loop-k.self.words b c.args.d c.args.j _ (omega arith) c.requires.0 c.requires.1 (c.loop-k.invariant b f away) covers
+    write_last c.loop-k.self.words b c.args.digit c.args.band _ (omega arith) c.requires.0 c.requires.1 (c.loop-k.invariant b f away) covers

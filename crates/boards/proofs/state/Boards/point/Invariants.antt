@@ -6,4 +6,4 @@ use Rattle.boards.proofs.Writes.{FitsAt, But}
 use Rattle.boards.proofs.state.Boards.point.Given as goal
 
 abbrev pub invariant-loop-k : goal.invariant-loop-k
-invariant-loop-k l = (b : List ℕ) → Fits l.fn.self.words b → Pointed b l.d l.j l.columns → FitsAt (But l.d l.j) l.self.words b
+invariant-loop-k l = (b : List ℕ) → Fits l.fn.self.words b → Pointed b l.digit l.band l.columns → FitsAt (But l.digit l.band) l.self.words b

@@ -5,5 +5,5 @@ use Rattle.boards.proofs.state.Boards.settle.Given as goal
 abbrev pub invariant-loop : goal.invariant-loop
 invariant-loop l = Keeps l.fn.self.words l.self.words
 
-abbrev pub invariant-loop-j : goal.invariant-loop-j
-invariant-loop-j l = Keeps l.fn.self.words l.self.words
+abbrev pub invariant-loop-band : goal.invariant-loop-band
+invariant-loop-band l = Keeps l.fn.self.words l.self.words
