@@ -38,11 +38,12 @@ second_of (Several a b) = b
 
 -- so much more is found: after the completions of one list those of another
 abbrev pub Adds : Found → Found → List (List ℕ) → Type 0
-Adds old new more = (before : List (List ℕ)) → old ≡ found_of before → new ≡ found_of (before ++ more)
+Adds old new more =
+    (before : List (List ℕ)) → old ≡ found_of before → new ≡ found_of (before ++ more)
 
 -- a cell with no digit is open
 abbrev pub is_open : List ℕ → ℕ → Bool
-is_open g c = not (is_digit (byte g c))
+is_open g cell = not (is_digit (byte g cell))
 
 -- the number of open cells
 unfoldable pub open_cells : List ℕ → ℕ
@@ -50,7 +51,7 @@ open_cells g = tally 81 (is_open g)
 
 -- the cells before a cell all have digits
 abbrev pub ClosedBefore : List ℕ → ℕ → Type 0
-ClosedBefore g c = (k : ℕ) → k < c → T (is_digit (byte g k))
+ClosedBefore g cell = (k : ℕ) → k < cell → T (is_digit (byte g k))
 
 -- the next digit of some that are given by bits, from one on, or 9: none is passed over
 pub record NextDigit (digits from r : ℕ) : Type 0 where
@@ -65,7 +66,8 @@ pub record Bounds (only : Option (List ℕ)) (words g : List ℕ) : Type 0 where
 
 -- Among the digits are all that a completion has in a cell.
 abbrev pub MayHave : List ℕ → ℕ → ℕ → Type 0
-MayHave g c digits = (b : List ℕ) (d : ℕ) → Legal g b → d < 9 → byte b c ≡ 49 + d → On digits d
+MayHave g cell digits =
+    (b : List ℕ) (d : ℕ) → Legal g b → d < 9 → byte b cell ≡ 49 + d → On digits d
 
 -- Cells have got their digits, and no completion is lost. Either no cell is open then, or this is the first open cell.
 pub record Fills (old new : List ℕ) (r : Option Open) : Type 0 where
@@ -73,8 +75,10 @@ pub record Fills (old new : List ℕ) (r : Option Open) : Type 0 where
   pub fewer : open_cells new ≤ open_cells old
   pub first :
       MatchOption r (ClosedBefore new 81)
-      (λ x. (x.cell < 81) × T (is_open new x.cell) × ClosedBefore new x.cell × MayHave new x.cell x.digits)
+      (λ x. (x.cell < 81) × T (is_open new x.cell)
+      × ClosedBefore new x.cell × MayHave new x.cell x.digits)
 
 -- What fits and has the digit in the cell fits then, and its branch is entered.
 abbrev pub Enters : List ℕ → List ℕ → ℕ → ℕ → ℕ → Bool → Type 0
-Enters old new d j i entered = (b : List ℕ) → Fits old b → Has b d j i → IsTrue entered × Fits new b
+Enters old new digit band cell entered =
+    (b : List ℕ) → Fits old b → Has b digit band cell → IsTrue entered × Fits new b

@@ -110,7 +110,8 @@ impl Search {
         requires bounds { Bounds self.old.only boards.now.words grid.now }
         requires closed { (from ≤ 81) × ClosedBefore grid.now from }
         ensures found { OnOk result (Adds self.old.found self.new.found (completions grid.now)) }
-        ensures kept { (self.new.only ≡ self.old.only) × (self.new.test.tested ≡ self.old.test.tested) }
+        ensures kept { (self.new.only ≡ self.old.only)
+            × (self.new.test.tested ≡ self.old.test.tested) }
         ensures ok { self.old.test.tested ≡ true → IsOk result }
     {
         let mut filled = *grid;

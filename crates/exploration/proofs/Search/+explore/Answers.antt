@@ -99,7 +99,8 @@ loop-digit-preserved t c =
             i.1,
             c.in_ok-enters.ensures.kept ∙ i.2,
             then_next c.loop-digit.self.found
-                (passed g x.cell n d few only c.args.boards.now.words known c.enters.new.boards.words c.in_ok-enters.field-0 c.in_ok-enters.ensures.entered old c.loop-digit.self.found w.if-branch.false i.3),
+                (passed g x.cell n d few only c.args.boards.now.words known c.enters.new.boards.words c.in_ok-enters.field-0 c.in_ok-enters.ensures.entered
+                old c.loop-digit.self.found w.if-branch.false i.3),
           )
           )
     ]
