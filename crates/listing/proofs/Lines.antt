@@ -12,7 +12,8 @@ use Rattle.std.specs.Prelude.{min}
 use Rattle.std.proofs.lemmas.Bool.{ne_eqb}
 use Rattle.std.proofs.lemmas.List.{append-nil}
 use Rattle.std.proofs.lemmas.List.Elements.{All-head, All-tail}
-use Rattle.listing.specs.Listing.{listed, onto_first, lines_of, listed_from, HasNoNewline}
+use Rattle.std.specs.List.{onto_first}
+use Rattle.listing.specs.Listing.{listed, lines_of, listed_from, HasNoNewline}
 use Rattle.listing.proofs.LongLine.{long_line}
 
 -- lines with a beginning put before the first

@@ -18,7 +18,7 @@ use Rattle.grading.specs.declared.Verdict.TheVariants.{NoCompletion, Finished, U
 use Rattle.grading.proofs.Says.{number_range, Answers}
 use Rattle.grading.proofs.Calls.{grade_answers}
 use Rattle.listing.specs.Listing.{field, shown, listed, NoSix}
-use Rattle.listing.proofs.Decimal.{decimal_digit}
+use Rattle.std.proofs.lemmas.Fmt.{decimal_digit}
 
 -- a verdict has one digit
 one_digit : (v : Verdict) → number_of v ≤ 7

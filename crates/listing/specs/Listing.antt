@@ -1,6 +1,7 @@
 -- Listings, byte for byte: the output line of a line, and the listing of a whole input.
-use Rattle.std.specs.Prelude.{◌≡◌, ◌≢◌, if◌then◌else◌, ◌==◌, nat_lt, ℕ, zero, suc, ◌+◌, ◌-◌, ◌/◌, ◌%◌, ◌^◌, ◌≤◌, min}
+use Rattle.std.specs.Prelude.{decimal, ◌≡◌, ◌≢◌, if◌then◌else◌, ◌==◌, ℕ, suc, ◌+◌, ◌-◌, ◌^◌, ◌≤◌, min}
 use Rattle.std.specs.Prelude.{List, [], ◌∷◌, ◌++◌, All, length, set, Result, Ok, Err}
+use Rattle.std.specs.List.{onto_first}
 use Rattle.grid.specs.Refusals as refusals
 use Rattle.grid.specs.declared.Refusal.{Refusal}
 use Rattle.orders.specs.Order.{default_order, default_ceiling}
@@ -14,16 +15,7 @@ use Rattle.grading.specs.declared.Verdict.TheVariants as verdict
 abbrev pub header_line : List ℕ
 header_line = 108 ∷ 105 ∷ 110 ∷ 101 ∷ 32 ∷ 118 ∷ 101 ∷ 114 ∷ 100 ∷ 105 ∷ 99 ∷ 116 ∷ 32 ∷ 116 ∷ 114 ∷ 105 ∷ 97 ∷ 108 ∷ 115 ∷ 10 ∷ []
 
--- the digits of n, if they are at most so many
-unfoldable pub decimal_in : ℕ → ℕ → List ℕ
-decimal_in zero n = []
-decimal_in (suc k) n = if nat_lt n 10 then (48 + n) ∷ [] else decimal_in k (n / 10) ++ ((48 + n % 10) ∷ [])
-
--- n as text: its digits, the most significant first, without leading zeros
-unfoldable pub decimal : ℕ → List ℕ
-decimal n = decimal_in (suc n) n
-
--- a number and the byte after it
+-- a number in decimal, without leading zeros, and the byte after it
 unfoldable pub field : ℕ → ℕ → List ℕ
 field n b = decimal n ++ (b ∷ [])
 
@@ -35,11 +27,6 @@ shown n (Err r) = ((field n 32 ++ (82 ∷ [])) ++ (32 ∷ [])) ++ field (refusal
 -- the output line of line number n: the line is graded under the default order and the default ceiling
 unfoldable pub listed : ℕ → List ℕ → List ℕ
 listed n line = shown n (grade_call line default_order default_ceiling zeros).0
-
--- lines with a byte more at the front of the first
-abbrev pub onto_first : ℕ → List (List ℕ) → List (List ℕ)
-onto_first b [] = (b ∷ []) ∷ []
-onto_first b (line ∷ lines) = (b ∷ line) ∷ lines
 
 -- the lines of an input. A newline, byte 10, ends its line and is no part of it, and the last line may end without one: so `ab` and two newlines are two
 -- lines, of which the second is empty, and an empty input has none

@@ -24,7 +24,7 @@ pub use stream::{Failure, list};
 const HEADER: [u8; 20] = *b"line verdict trials\n";
 
 // Writes a text at the start of a lent buffer, in which any line has room, and says how long it is; what is past it stays.
-#[tactic(auto, using(crate::proofs::Decimal::written_copies))]
+#[tactic(auto, using(crate::proofs::Written::written_copies))]
 fn write(text: &[u8], out: &mut [u8; 64]) -> usize
     requires { length text.now ≤ 64 }
     ensures { Writes text.now out.old out.new result }
@@ -41,7 +41,7 @@ pub fn header(out: &mut [u8; 64]) -> usize
 }
 
 // Writes a number in decimal and a byte after it.
-#[tactic(auto, using(crate::proofs::Decimal::decimal_is, std::proofs::Common::append_assoc), unfolding(crate::specs::Listing::field))]
+#[tactic(auto, using(std::proofs::Common::append_assoc), unfolding(crate::specs::Listing::field))]
 fn field(text: &mut ArrayVec<u8, 64>, n: u64, after: u8)
     requires { array_vec_len text.old + 21 ≤ 64 }
     ensures written { text.new.items ≡ text.old.items ++ field n after }
