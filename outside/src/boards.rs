@@ -142,10 +142,9 @@ impl Boards {
     #[inline(never)]
     fn changed(&self) -> [u32; 4] {
         let mut digits = [0; 4];
-        for d in 0..9 {
-            for j in 0..4 {
-                let changed = self.words[d][j] != self.seen[d][j];
-                digits[j] |= if changed { 1 << d } else { 0 };
+        for (d, (words, seen)) in self.words.iter().zip(&self.seen).enumerate() {
+            for (digits, (word, seen)) in digits.iter_mut().zip(words.iter().zip(seen)) {
+                *digits |= if word != seen { 1 << d } else { 0 };
             }
         }
         digits
@@ -169,12 +168,12 @@ impl Boards {
     pub fn settle(&mut self) -> Result<Counts, Clash> {
         loop {
             loop {
-                let digits = self.changed();
-                if digits == [0; 4] {
+                let changed = self.changed();
+                if changed == [0; 4] {
                     break;
                 }
-                for band in 0..3 {
-                    for digit in bits(digits[band]) {
+                for (band, digits) in changed[..3].iter().enumerate() {
+                    for digit in bits(*digits) {
                         self.look(digit, band)?;
                     }
                 }

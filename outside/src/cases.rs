@@ -170,6 +170,23 @@ impl Random {
         grid
     }
 
+    /// The grid without so many of its givens.
+    pub fn without(&mut self, grid: Grid, givens: usize) -> Grid {
+        let mut less = grid;
+        let cells = self.permutation::<CELLS>().into_iter();
+        for cell in cells.filter(|&cell| is_given(grid[cell])).take(givens) {
+            less[cell] = self.blank();
+        }
+        less
+    }
+
+    /// The grid, which has a blank, with any digit in one of its blanks.
+    pub fn damaged(&mut self, mut grid: Grid) -> Grid {
+        let blanks: Vec<usize> = (0..CELLS).filter(|&cell| !is_given(grid[cell])).collect();
+        grid[blanks[self.below(blanks.len())]] = b'1' + self.below(9) as u8;
+        grid
+    }
+
     fn blank(&mut self) -> u8 {
         [b'0', b'.'][self.below(2)]
     }

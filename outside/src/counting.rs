@@ -25,6 +25,9 @@ pub struct Count {
     cells: [u32; 81],
 }
 
+/// The nodes of the first attempt.
+const FIRST: usize = 1_500;
+
 /// To how many branches of a node crowded houses are looked for.
 const SHALLOW: usize = 5;
 
@@ -42,9 +45,9 @@ impl Count {
         }
     }
 
-    /// The only grid that may fit, or none. Where one more is enough, a grid that is found stops it.
+    /// The only grid that may fit boards, or none. Where one is enough, a grid that is found stops it.
     pub fn attempts(&mut self, boards: &Boards, enough: bool) -> Result<Option<Grid>, Stop> {
-        let mut nodes = 1_500;
+        let mut nodes = FIRST;
         for attempt in 0..20 {
             (self.left, self.attempt, self.enough) = (nodes, attempt, enough);
             let outcome = self.count(&mut boards.clone(), SHALLOW);
@@ -56,6 +59,7 @@ impl Count {
         Err(Stop)
     }
 
+    /// The same, with the nodes that are left.
     fn count(&mut self, boards: &mut Boards, shallow: usize) -> Result<Option<Grid>, Stop> {
         let mut found = None;
         while self.left > 0 {

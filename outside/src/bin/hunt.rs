@@ -1,10 +1,9 @@
 //! Hunts for grids that cost the search most, by the nodes of the plain one. Arguments: the minutes to
-//! hunt (default 1) and a seed (default 1). It first measures `bad-grids` and `slow-grids`. Then it
-//! climbs from turned grids of the collection, each climb among grids with as many completions as its
-//! start: a few givens change, and the change stays unless the search takes markedly fewer nodes. The
-//! top of a climb is a find if it takes at least half as many nodes as the worst of the collection with
-//! as many completions. Finds are written to standard output as the collections have them, one grid a
-//! line; figures, to standard error.
+//! hunt (default 1), a seed (default 1), and a bound (default 4000). It first measures `bad-grids` and
+//! `slow-grids`. Then it climbs from turned grids of the collection, each climb among grids with as many
+//! completions as its start: a few givens change, and the change stays unless the search takes markedly
+//! fewer nodes. The top of a climb is a find if it takes more nodes than the bound. Finds are written
+//! to standard output as the collections have them, one grid a line; figures, to standard error.
 
 use reference::cases::{bad, slow, Grid, Random};
 use reference::grid::is_given;
@@ -63,10 +62,10 @@ fn main() -> Result<(), String> {
     });
     let minutes = numbers.next().unwrap_or(Ok(1))?;
     let mut random = Random(numbers.next().unwrap_or(Ok(1))?);
+    let bound = numbers.next().unwrap_or(Ok(4_000))? as usize;
 
     let collection = [bad(), slow()].concat();
     let collection: Vec<Cost> = collection.into_iter().map(Cost::of).collect();
-    let mut worst = [0; 3];
     for (completions, kind) in ["none", "one", "several"].into_iter().enumerate() {
         let of_kind = || {
             collection
@@ -74,7 +73,6 @@ fn main() -> Result<(), String> {
                 .filter(|cost| cost.completions == completions)
         };
         if let Some(top) = of_kind().max_by_key(|cost| cost.nodes) {
-            worst[completions] = top.nodes;
             top.report(&format!(
                 "{} grids with {kind}, the worst",
                 of_kind().count()
@@ -88,7 +86,7 @@ fn main() -> Result<(), String> {
         let known = collection[random.below(collection.len())].grid;
         let top = climb(&mut random, &known, end, &mut grids);
         climbs += 1;
-        if 2 * top.nodes >= worst[top.completions] {
+        if top.nodes > bound {
             finds += 1;
             println!("{}", String::from_utf8_lossy(&top.grid));
             top.report(&format!("found, {} completions", top.completions));

@@ -51,6 +51,16 @@ impl Tally {
         }
     }
 
+    /// Counts the cases of another tally too.
+    fn add(&mut self, other: Tally) {
+        self.cases += other.cases;
+        self.differences += other.differences;
+        self.first = self.first.take().or(other.first);
+        for (number, calls) in other.answers {
+            *self.answers.entry(number).or_default() += calls;
+        }
+    }
+
     /// Counts one answer of the reference.
     fn answered(&mut self, number: u8) {
         *self.answers.entry(number).or_default() += 1;
@@ -70,7 +80,7 @@ fn main() -> Result<ExitCode, String> {
         let gradings = scope.spawn(|| gradings::gradings(&grids));
         let batches = scope.spawn(|| batches::batches(&grids));
         let listings = scope.spawn(|| listings::listings(&grids, Path::new(&program)));
-        let searches = searches::searches(&grids);
+        let searches = searches::searches(&grids, &lent);
         let ended = "no comparison panics";
         let [lines, runs] = listings.join().expect(ended)?;
         io::Result::Ok([
