@@ -6,14 +6,14 @@ use super::choosing::choose;
 use super::clashes::Clashes;
 use boards::state::{Boards, Place};
 
-// To how many branches of a node crowded houses are looked for, from the second attempt on.
+// How many branches deep crowded houses are looked for, from the second attempt on.
 const SHALLOW: u32 = 5;
 
 // A count that was stopped: more than one grid may fit, or the nodes are spent.
 #[derive(Drop)]
 pub struct Stop;
 
-// What is found with a place and without it; two are too many.
+// What is found of the grids without a place and of those with it; two are too many.
 fn joined(found: Option<[u8; 81]>, more: Option<[u8; 81]>) -> Result<Option<[u8; 81]>, Stop>
     ensures { IfOk result (λ only.
         (b : List ℕ) → (found ≡ Some b) ⊎ (more ≡ Some b) → only ≡ Some b) }
@@ -62,7 +62,7 @@ impl Count {
         self.guess[27 * place.band + place.cell as usize] == b'1' + place.digit as u8
     }
 
-    // The only grid that may fit the boards, or none.
+    // The only grid that may fit the boards, or none. Crowded houses are looked for so many branches deep as `shallow` says.
     fn count(&mut self, boards: &mut Boards, shallow: u32) -> Result<Option<[u8; 81]>, Stop>
         ensures only { IfOk result (λ only. Only boards.old.words only) }
         ensures falls { self.new.nodes ≤ self.old.nodes }

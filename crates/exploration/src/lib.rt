@@ -53,7 +53,7 @@ impl Found {
     }
 }
 
-// The first open cell of a grid, and the digits that a completion may have there, a bit for each.
+// An open cell of a grid, and the digits that a completion may have there, a bit for each.
 #[derive(Clone, Copy)]
 struct Open {
     cell: usize,
@@ -85,7 +85,7 @@ impl Search {
         }
     }
 
-    // Gives open cells their digits, in which one is left, up to the first in which more are left, or none.
+    // Gives the open cells in which one digit is left this digit, up to the first in which more are left, or none. That is the first open cell then.
     fn fill(&self, grid: &mut [u8; 81], boards: &Boards, from: usize) -> Option<Open>
         requires bounds { Bounds self.now.only boards.now.words grid.old }
         requires closed { (from ≤ 81) × ClosedBefore grid.old from }
