@@ -1,10 +1,10 @@
 //! Compares the search and both clause sets with two public solvers, minisat and cadical, on grids
-//! with none, one and several completions, those that cost a search much among them. A formula must
-//! be unsatisfiable exactly when the search finds none, its model a legal completion, and with the
-//! first completion blocked it must be satisfiable exactly when the search finds several. The exit
-//! status is 1 at any difference.
+//! with none, one and several completions, published ones and those that cost a search much among
+//! them. A formula must be unsatisfiable exactly when the search finds none, its model a legal
+//! completion, and with the first completion blocked it must be satisfiable exactly when the search
+//! finds several. The exit status is 1 at any difference.
 
-use reference::cases::{bad, named, slow, Grid, Random};
+use reference::cases::{bad, named, published, slow, Grid, Random};
 use reference::dimacs::{blocking, read_model, write};
 use reference::grid::is_completion;
 use reference::plain_search;
@@ -58,7 +58,7 @@ fn main() -> ExitCode {
 /// where the reference's takes long.
 fn searched() -> Vec<(Grid, Vec<Grid>)> {
     let mut random = Random(1);
-    let mut grids = [named(), bad()].concat();
+    let mut grids = [named(), published(), bad()].concat();
     for blanks in (0..GENERATED_OF_EACH_KIND).map(|round| 24 + round) {
         grids.push(random.with_none(blanks));
         grids.push(random.with_one(blanks));

@@ -1,5 +1,5 @@
-//! The sets of grids that calls are timed on. What qqwing generates differs from run to run; all else
-//! is made from one seed.
+//! The sets of grids that calls are timed on. What qqwing generates differs from run to run, and so does
+//! what is made of it; all else is the same in every run.
 
 use reference::cases::{published, Grid, Random};
 use reference::grid::CELLS;
@@ -20,7 +20,7 @@ pub struct Grids {
     /// By qqwing, with one completion; none where it is not installed.
     generated: Vec<Grid>,
     few: Vec<Grid>,
-    /// Of the published, the generated and those with few givens, each without some of its givens.
+    /// Of the published, those with few givens and the generated, each without some of its givens.
     several: Vec<Grid>,
     /// Of the same, each with a wrong given.
     none: Vec<Grid>,
@@ -52,15 +52,16 @@ impl Grids {
         let verdict_five = verdict_five.collect();
         let generated = by_qqwing()?;
         let few: Vec<Grid> = (0..FEW).map(|_| random.with_few()).collect();
-        let all = [&published[..], &generated, &few].concat();
+        let all = [&published[..], &few, &generated].concat();
+        let mut other = Random(6);
         Ok(Grids {
             mixed,
             published,
             verdict_five,
             generated,
             few,
-            several: all.iter().map(|grid| random.thinned(*grid)).collect(),
             none: all.iter().map(|grid| random.spoiled(*grid)).collect(),
+            several: all.iter().map(|grid| other.thinned(*grid)).collect(),
         })
     }
 
