@@ -9,7 +9,7 @@ use boards::state::{Boards, Place};
 // How many branches deep crowded houses are looked for, from the second attempt on.
 const SHALLOW: u32 = 5;
 
-// A count that was stopped: more than one grid may fit, or the nodes are spent.
+// A count that was stopped: as many grids were found as are enough, or the nodes are spent. Nothing follows.
 #[derive(Drop)]
 pub struct Stop;
 

@@ -9,7 +9,7 @@ use borrow.Author.Tests.{eq-eqb}
 use lib.Dec.{eqb}
 use lib.IntN.{ℤ}
 use lib.ListN.{length}
-use Rattle.std.specs.Prelude.{Option, Result, Ok, Err, OnErr, IfOk}
+use Rattle.std.specs.Prelude.{Option, Some, Result, Ok, Err, OnErr, IfOk}
 use Rattle.std.specs.Result.{result_err}
 use Rattle.grid.specs.Refusals.{rule, first_broken, on_accepted, bytes_rule, grid_rules, grid_check}
 use Rattle.grid.specs.declared.Refusal.{Refusal}
@@ -22,7 +22,7 @@ use Rattle.orders.specs.declared.technique.Technique.{Technique}
 use Rattle.orders.proofs.Orders.{accepted_order}
 use Rattle.orders.proofs.Rules.{technique_broken, order_broken}
 use Rattle.orders.proofs.Techniques.{technique_number}
-use Rattle.pieces.specs.Format.{Spells}
+use Rattle.pieces.specs.Format.{Spells, IsFault}
 use Rattle.pieces.specs.Pieces.{pieces_of}
 use Rattle.pieces.specs.declared.piece.Bodies.{Bodies}
 use Rattle.pieces.proofs.Format.{AreBytes, pieces_read}
@@ -137,3 +137,16 @@ module _ (f g : List ℕ) (o : List ℤ) where
 
     pub answers_so : Answers (r, g', o')
     answers_so = subst Answers (sym e) (read_answers bytes)
+
+    -- where what is lent has its lengths, the file's fault is what the call is refused by
+    pub faults_so : (fault : Refusal) → IsFault f fault → (length g ≡ 81) × (length o ≡ 1458) → result_err r ≡ Some fault
+    unfolding read_rules
+    faults_so fault k long =
+        refused_so ∙ go (eqb (length g) 81) (eqb (length o) 1458) (eq-eqb (length g) 81 long.0) (eq-eqb (length o) 1458 long.1) (pieces_of f) (((pieces_read f bytes (pieces_of f) refl).1 fault).1 k)
+      where
+        go : (x y : Bool) → x ≡ true → y ≡ true → (p : Result Bodies Refusal) → p ≡ Err fault
+            → first_broken (rule x BufferLength ∷ rule y OrderBuffer ∷ file_rules p) ≡ Some fault
+        go true true a b (Err q) e = let z : q ≡ fault = cc in ap Some z
+        go true true a b (Ok q) e = absurd (no_answer (sym e))
+        go true false a b p e = let z : false ≡ true = b in cc
+        go false y a b p e = let z : false ≡ true = a in cc

@@ -4,7 +4,9 @@
 //     Settings     what it answers
 #![tactic(auto)]
 
-ghost use Rattle.std.specs.Prelude.{◌≡◌, IfOk, OnErr};
+ghost use Rattle.std.specs.Prelude.{◌≡◌, length, Some, IfOk, OnErr};
+ghost use Rattle.pieces.specs.Format.{IsFault};
+ghost use Rattle.grid.specs.declared.Refusal.{Refusal};
 ghost use Rattle.std.specs.Result.{result_err};
 ghost use Rattle.grid.specs.Refusals.{first_broken};
 ghost use Rattle.jobfile.specs.Contents.{entries_in, order_in};
@@ -94,6 +96,8 @@ fn read_file(
 pub fn read(file: &[u8], grid: &mut [u8], order: &mut [i16]) -> Result<Settings, Refusal>
     ensures exact { (result, grid.new, order.new) ≡ read_call file.now grid.old order.old }
     ensures refused { result_err result ≡ first_broken (read_rules file.now grid.old order.old) }
+    ensures faults { (fault : Refusal) → IsFault file.now fault →
+        (length grid.old ≡ 81) × (length order.old ≡ 1458) → result_err result ≡ Some fault }
     ensures err { OnErr result ((grid.new ≡ grid.old) × (order.new ≡ order.old)) }
     ensures ok { IfOk result (λ settings. Sets file.now settings grid.new order.new) }
 {

@@ -5,7 +5,7 @@ use Rattle.std.proofs.Common.{rules}
 use Rattle.std.specs.Prelude.{Err}
 use Rattle.grid.specs.declared.Refusal.TheVariants.{BufferLength, OrderBuffer}
 use Rattle.jobfile.specs.Call.{lent_check, read_call}
-use Rattle.jobfile.proofs.Calls.{refused_so, stays_so, answers_so}
+use Rattle.jobfile.proofs.Calls.{refused_so, faults_so, stays_so, answers_so}
 use Rattle.jobfile.proofs.read.Goals as goal
 
 pub returns-in_default-clause-refused : goal.returns-in_default-clause-refused
@@ -29,6 +29,21 @@ returns c =
     record {
       exact = e;
       refused = refused_so a.file.now a.grid.now a.order.now (λ i. omega (arith, c.type_inv.file i)) _ _ _ e;
+      faults = faults_so a.file.now a.grid.now a.order.now (λ i. omega (arith, c.type_inv.file i)) _ _ _ e;
       err = stays_so a.file.now a.grid.now a.order.now (λ i. omega (arith, c.type_inv.file i)) _ _ _ e;
       ok = answers_so a.file.now a.grid.now a.order.now (λ i. omega (arith, c.type_inv.file i)) _ _ _ e;
     }
+
+pub returns-in_default-clause-faults : goal.returns-in_default-clause-faults
+unfolding lent_check read_call
+returns-in_default-clause-faults c =
+    let a = c.args in
+    let e : (Err BufferLength, a.grid.now, a.order.now) ≡ read_call a.file.now a.grid.now a.order.now = search rules in
+    faults_so a.file.now a.grid.now a.order.now (λ i. omega (arith, c.type_inv.file i)) _ _ _ e
+
+pub returns-in_default-as_mut_array-clause-faults : goal.returns-in_default-as_mut_array-clause-faults
+unfolding lent_check read_call
+returns-in_default-as_mut_array-clause-faults c =
+    let a = c.args in
+    let e : (Err OrderBuffer, a.grid.now, a.order.now) ≡ read_call a.file.now a.grid.now a.order.now = search rules in
+    faults_so a.file.now a.grid.now a.order.now (λ i. omega (arith, c.type_inv.file i)) _ _ _ e
