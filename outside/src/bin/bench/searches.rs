@@ -3,7 +3,7 @@
 //! their output count; cadical gets a formula to find a completion and one with that blocked.
 
 use crate::{ended, least, row, same_answers, time, times, Answer, Call};
-use reference::cases::{bad, slow, Grid};
+use reference::cases::{bad, slow, Grid, SLOW_BEFORE};
 use reference::dimacs::{blocking, write};
 use reference::grid::CELLS;
 use reference::refusal::Refusal;
@@ -50,13 +50,20 @@ pub fn beside_plain(name: &str, grids: &[Grid]) -> Result<(), String> {
     Ok(())
 }
 
-/// Each side's longest search of those on grids that cost much.
+/// Each side's longest search of those on grids that cost much: those made for the search before, and
+/// those that hunts for this one found.
 pub fn slowest() -> Result<(), String> {
-    let grids = [bad(), slow()].concat();
-    let name = format!("slowest search of {} bad grids", grids.len());
+    let slow = slow();
+    let (before, found) = slow.split_at(SLOW_BEFORE);
+    slowest_of(&[&bad(), before].concat(), "bad grids")?;
+    slowest_of(found, "grids hunted")
+}
+
+fn slowest_of(grids: &[Grid], kind: &str) -> Result<(), String> {
+    let name = format!("slowest search of {} {kind}", grids.len());
     let calls = [PROVED, PLAIN, CLOSURES];
     let mut slowest = [0f64; 3];
-    for grid in &grids {
+    for grid in grids {
         same_answers(&name, grid, 2 * CELLS, calls)?;
         let sides = calls.map(|call| move || time(&[*grid], 2 * CELLS, call, 1));
         for (slowest, least) in slowest.iter_mut().zip(least(RUNS, sides)) {
