@@ -26,7 +26,7 @@ pub struct Count {
 }
 
 /// The nodes of the first attempt.
-const FIRST: usize = 500;
+const FIRST: usize = 1_000;
 
 /// To how many branches of a node crowded houses are looked for.
 const SHALLOW: usize = 5;

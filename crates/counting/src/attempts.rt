@@ -105,7 +105,7 @@ impl Count {
         ensures { IfOk result (λ only. Only boards.now.words only) }
     {
         for k in 0..20u32 {
-            self.nodes = 500 << (2 * k);
+            self.nodes = 1000 << (2 * k);
             self.enough = enough;
             self.attempt = k;
             let mut near = *boards;
