@@ -1,20 +1,47 @@
 // Lists standard input on standard output. The work is the library's: here a failure is told on standard error.
 #![tactic(auto)]
 
+ghost use Rattle.std.specs.Prelude.{Option, List, ℕ};
+
 use listing::Failure;
-use std::io;
+use std::io::{self, ErrorKind, Read};
 use std::process::ExitCode;
 
 // Says on standard error what has failed, and why.
-fn tell(rt: &impl Eprint, what: &str, error: io::Error) -> ExitCode {
+fn tell(rt: &impl Eprint, what: &str, error: io::Error) {
     let _ = eprintln!(rt; "gradelist: {what}: {error}");
-    ExitCode::FAILURE
+}
+
+// A reader whose failure is told as it fails, before a line that it cuts off is answered. An interrupted read is no failure: it is made again.
+#[derive(Drop)]
+struct Told<'a, R, E> {
+    reader: R,
+    rt: &'a E,
+}
+
+impl<'a, R: Read, E: Eprint> Read for Told<'a, R, E> {
+    ghost remaining = { λ told. R.remaining told.reader };
+
+    fn read(&mut self, piece: &mut [u8]) -> io::Result<usize> {
+        let read = self.reader.read(piece);
+        if let Err(error) = read {
+            if error.kind() != ErrorKind::Interrupted {
+                tell(self.rt, "standard input", error);
+            }
+        }
+        read
+    }
 }
 
 fn main(rt: HostRuntime) -> ExitCode {
-    match listing::list(&mut rt.stdin(), &mut rt.stdout()) {
-        Ok(()) => ExitCode::SUCCESS,
-        Err(Failure::Read(error)) => tell(&rt, "standard input", error),
+    let mut input = Told {
+        reader: rt.stdin(),
+        rt: &rt,
+    };
+    match listing::list(&mut input, &mut rt.stdout()) {
+        Ok(()) => return ExitCode::SUCCESS,
+        Err(Failure::Read(_)) => {}
         Err(Failure::Write(error)) => tell(&rt, "standard output", error),
     }
+    ExitCode::FAILURE
 }

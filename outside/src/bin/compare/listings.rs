@@ -11,6 +11,8 @@ use reference::listing::{gradelist, HEADER};
 use reference::proved;
 use std::fs::{self, File};
 use std::io::{self, Write};
+use std::os::fd::OwnedFd;
+use std::os::unix::net::UnixStream;
 use std::path::Path;
 use std::process::{Command, Output, Stdio};
 use std::{env, process, thread};
@@ -21,6 +23,9 @@ const LINES: usize = 60;
 
 /// The bytes that the program reads at once.
 const CHUNK: usize = 65_536;
+
+/// The system's number for a read that would have to wait.
+const WOULD_BLOCK: i32 = 11;
 
 /// The lists, line by line through the library and whole through the program.
 pub fn listings(grids: &[Grid], program: &Path) -> io::Result<[Tally; 2]> {
@@ -43,6 +48,7 @@ pub fn listings(grids: &[Grid], program: &Path) -> io::Result<[Tally; 2]> {
         let text = gradelist(&input);
         runs.run("a file", &input, &text, from_file(program, &input)?);
     }
+    runs.failed_read(program)?;
     Ok([lines, runs])
 }
 
@@ -121,6 +127,30 @@ impl Tally {
         for line in ours.skip(1) {
             self.answered(answer(line));
         }
+    }
+
+    /// A read that fails within a line: that is told as it fails, then the line is answered as far
+    /// as it came, and the status is 1. Both streams go to one file, which keeps their order.
+    fn failed_read(&mut self, program: &Path) -> io::Result<()> {
+        let (input, mut host) = UnixStream::pair()?;
+        input.set_nonblocking(true)?;
+        host.write_all(b"12")?;
+        let path = env::temp_dir().join(format!("gradelist-output-{}", process::id()));
+        let output = File::options().append(true).create_new(true).open(&path)?;
+        let status = Command::new(program)
+            .stdin(OwnedFd::from(input))
+            .stdout(output.try_clone()?)
+            .stderr(output)
+            .status();
+        let written = fs::read_to_string(&path);
+        fs::remove_file(&path)?;
+        let failure = io::Error::from_raw_os_error(WOULD_BLOCK);
+        let expected = format!("{HEADER}gradelist: standard input: {failure}\n1 R 11\n");
+        self.case((status?.code(), written?), (Some(1), expected), || {
+            "gradelist, where a read fails after `12`".to_string()
+        });
+        self.answered(11);
+        Ok(())
     }
 }
 
