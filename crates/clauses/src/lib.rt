@@ -1,6 +1,7 @@
 // Literals and the two numbered clause sets.
 //
 //     clause        the clause call: a set's clause by its number
+//     clause_count  how many clauses a set has
 //     ClauseSet     the two sets, by their numbers
 //     Group         nine variables of which a full grid makes one true
 //     Shape         what a clause says of a group
@@ -61,7 +62,7 @@ impl TryFrom<u32> for ClauseSet {
 }
 
 // How many clauses a set has.
-fn clause_count(set: ClauseSet) -> usize
+pub fn clause_count(set: ClauseSet) -> usize
     ensures { result ≡ length (clauses_of set) }
 {
     match set {

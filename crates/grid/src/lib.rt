@@ -1,11 +1,12 @@
 // The ground of the grader: the 81 bytes of a grid, its cells and houses, refusals, and the keyer's check.
 //
-//     Refusal        why a call turns its input down
-//     check_grid     the keyer's check of a grid
-//     check_bytes    the part of it that a batch shares: that each byte has a meaning
-//     keyed          a grid's bytes as an array, where the check accepts them
-//     house_cell     a cell of a house
-//     legal          the test of a legal completion
+//     Refusal           why a call turns its input down
+//     check_grid        the keyer's check of a grid
+//     check_bytes       the part of it that a batch shares: that each byte has a meaning
+//     first_bad_byte    the place of the first byte of no meaning, for bytes of any length
+//     keyed             a grid's bytes as an array, where the check accepts them
+//     house_cell        a cell of a house
+//     legal             the test of a legal completion
 #![tactic(auto)]
 
 ghost use Rattle.std.specs.Prelude.{◌≡◌, ◌<◌, ◌↔◌, Ok, Err, IsOk, MatchResult};
@@ -97,7 +98,7 @@ fn has_meaning(b: u8) -> bool
 }
 
 // The place of the first byte of no meaning.
-fn first_bad_byte(bytes: &[u8]) -> Option<usize>
+pub fn first_bad_byte(bytes: &[u8]) -> Option<usize>
     ensures { result ≡ first_bad bytes.now }
 {
     bytes.iter().position(|b| !has_meaning(*b))

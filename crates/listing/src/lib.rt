@@ -21,7 +21,7 @@ use orders::order::{DEFAULT_CEILING, default_order};
 pub use stream::{Failure, list};
 
 // The header of a listing.
-const HEADER: [u8; 20] = *b"line verdict trials\n";
+pub const HEADER: [u8; 20] = *b"line verdict trials\n";
 
 // Writes a text at the start of a lent buffer, in which any line has room, and says how long it is; what is past it stays.
 #[tactic(auto, using(crate::proofs::Written::written_copies))]
