@@ -1,7 +1,7 @@
 //! Listings: the header and each output line as the library writes them into lent buffers, and whole
 //! listings as the program `gradelist` writes them, on lists of graded and refused lines of every
-//! kind. The program reads from files, so that its buffer ends at every place of a line, and from
-//! pipes, in pieces.
+//! kind. The program reads from files, so that its buffer ends at every place of a line, from
+//! pipes, in pieces, and from a socket that fails within a line.
 
 use crate::lent::{no_marks, Twice, MEANINGLESS};
 use crate::{shown, Tally};
@@ -24,7 +24,7 @@ const LINES: usize = 60;
 /// The bytes that the program reads at once.
 const CHUNK: usize = 65_536;
 
-/// The system's number for a read that would have to wait.
+/// Linux's number for a read that would have to wait.
 const WOULD_BLOCK: i32 = 11;
 
 /// The lists, line by line through the library and whole through the program.
@@ -136,7 +136,8 @@ impl Tally {
         input.set_nonblocking(true)?;
         host.write_all(b"12")?;
         let path = env::temp_dir().join(format!("gradelist-output-{}", process::id()));
-        let output = File::options().append(true).create_new(true).open(&path)?;
+        fs::write(&path, "")?;
+        let output = File::options().append(true).open(&path)?;
         let status = Command::new(program)
             .stdin(OwnedFd::from(input))
             .stdout(output.try_clone()?)
