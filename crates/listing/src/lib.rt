@@ -1,6 +1,7 @@
 // Listings: each line of an input is graded under the defaults.
 //
-//     header       writes the header of a listing into a lent buffer
+//     HEADER       the header of a listing
+//     header       writes it into a lent buffer
 //     list_line    writes the output line of a line into a lent buffer
 //     list         reads a whole input and writes its listing
 //     no_six       no line of a listing is one of verdict 6
